@@ -1,22 +1,11 @@
 -- An insertion of an absent key at the address of its gap.
-use Rattle.std.proofs.Common.{◌≡◌, ℕ, Option, Some, None, Err, refl, is_some, if◌then◌else◌, Ok}
-use Rattle.std.specs.Cmp.{IsTotalOrder}
-use Rattle.std.specs.declared.cmp.Ordering.{Ordering}
-use Rattle.btree_item.specs.Pairs.{before, found}
-use Rattle.btree_item.specs.Address.{Address}
-use Rattle.btree_item.specs.declared.refused.Cause.{Cause}
-use Rattle.btree_node.specs.declared.node.Node.{Node}
-use Rattle.btree_raw.specs.Insertion.{IsRefused}
+use Rattle.btree_ext.proofs.Common.{◌≡◌, ℕ, Option, Some, None, Err, refl, is_some, if◌then◌else◌, Ok, IsTotalOrder, Ordering, before, found, Address, Cause, Node, IsRefused, Content, TreeState, IsBTree, IsPlaceIn, node_map, pairs_of, IsGapAt, has-place, IsGapFor, IsInserted}
 use Rattle.btree_raw.proofs.UpwardLemmas.{some-back}
-use Rattle.btree_store.specs.Content.{Content}
 use Rattle.btree_laws.specs.TreeAddresses.{HasAddresses}
-use Rattle.btree_laws.specs.TreeState.{TreeState, IsBTree, IsPlaceIn, node_map, pairs_of}
 use Rattle.btree_laws.proofs.AddressLists.Whole.{addresses-tree}
-use Rattle.btree_find.specs.Answers.{IsGapAt}
 use Rattle.btree_find.proofs.FitsLemmas.{item-occupied}
-use Rattle.btree_find.proofs.PlaceLemmas.{has-place}
 use Rattle.btree_find.proofs.SearchLemmas.{gap-at}
-use Rattle.btree_ext.specs.Insert.{IsGapFor, IsInserted, IsRefusedAtGap}
+use Rattle.btree_ext.specs.Insert.{IsRefusedAtGap}
 use Rattle.btree_ext.specs.InsertAbsent.{InsertsAbsent, IsGapOf}
 use Rattle.btree_ext.proofs.InsertLemmas.{gap-for, put-inserted_by_key}
 use Rattle.btree_ext.proofs.RefusalLemmas.{refused-at-gap}

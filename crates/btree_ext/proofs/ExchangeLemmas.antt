@@ -1,41 +1,26 @@
 -- An item replaced by another at an address: the tree afterwards, and every address.
-use Rattle.std.proofs.Common.{◌≡◌, ◌≢◌, ◌⊎◌, ◌∙◌, ℕ, zero, suc, inl, inr, List, [], ◌∷◌, length, set, Option, Some, None, refl, sym, ap, subst, option_map, option_and_then, slice_get, arith}
-use Rattle.std.proofs.lemmas.Option.{slice_get_within}
-use Rattle.std.specs.Cmp.{IsTotalOrder}
+use Rattle.btree_ext.proofs.Common.{◌≡◌, ◌≢◌, ◌∙◌, ℕ, zero, suc, inl, inr, List, [], ◌∷◌, length, set, Option, Some, None, refl, sym, ap, subst, option_map, option_and_then, slice_get, arith, slice_get_within, IsTotalOrder, Ordering, Address, Node, view_of, NodeMap, View, item_in, items_of, IsPlace, IsValid, times_listed, numbers_under, HasItems, WritesNode, address_at, TreeState, Changes, IsBTree, IsPlaceIn, IsUsed, IsValidIn, item_of, node_map, pairs_of, IsSized, IsWellFormed, times_used, item-within, same-or, positions-addressed, len-views, writes_node, used-view, is-tree, pairs-tree, with_node, same-len, same-kept, IsExchanged, IsValueExchanged, value_written}
+use Rattle.std.proofs.Common.{◌⊎◌}
 use Rattle.std.specs.FinMap as map
 use Rattle.std.specs.Map.{keys_of}
-use Rattle.std.specs.declared.cmp.Ordering.{Ordering}
 use Rattle.std.specs.List.Sorted.{IsStrictlySortedBy}
 use Rattle.btree_item.specs.Pairs.{Ascends}
-use Rattle.btree_item.specs.Address.{Address}
 use Rattle.btree_store.specs.ContentLaws.{insert-same}
-use Rattle.btree_node.specs.declared.node.Node.{Node}
-use Rattle.btree_node.specs.Node.{view_of}
 use Rattle.btree_node.specs.NodeLends.{node_with_item_at}
 use Rattle.btree_node.proofs.NodeLemmas.{item_at-children, item_at-items, item_at-kind, item_at-parent}
-use Rattle.btree_view.specs.View.{NodeMap, View, item_in, items_of}
 use Rattle.btree_laws.specs.Focus.TreePositions.{HasPosition}
-use Rattle.btree_laws.specs.Place.{IsEnd, IsOccupied, IsPlace, IsPlaceOf, IsValid}
-use Rattle.btree_laws.specs.Lists.{times_listed}
-use Rattle.btree_laws.specs.Represents.{numbers_under}
-use Rattle.btree_laws.specs.Step.{HasItems, WritesNode}
-use Rattle.btree_laws.specs.Focus.Positions.{address_at}
-use Rattle.btree_laws.specs.TreeState.{TreeState, Changes, IsBTree, IsOccupiedIn, IsPlaceIn, IsUsed, IsValidIn, item_of, node_map, pairs_of}
-use Rattle.btree_laws.specs.WellFormed.{IsSized, IsWellFormed, times_used}
-use Rattle.btree_laws.proofs.Places.Words.{item-within}
-use Rattle.btree_laws.proofs.Trees.Numbers.{same-or, used-one}
+use Rattle.btree_laws.specs.Place.{IsEnd, IsOccupied, IsPlaceOf}
+use Rattle.btree_laws.specs.TreeState.{IsOccupiedIn}
+use Rattle.btree_laws.proofs.Trees.Numbers.{used-one}
 use Rattle.btree_laws.proofs.Places.OnePlace.{one_place-well}
-use Rattle.btree_laws.proofs.Places.OfTree.{positions-addressed, valid-on, well-on}
+use Rattle.btree_laws.proofs.Places.OfTree.{valid-on, well-on}
 use Rattle.btree_laws.proofs.Trees.ValidPlaces.{place-valid}
 use Rattle.btree_laws.proofs.Removal.OtherItemInState.{ReplacedWell, replaced-well}
-use Rattle.btree_laws.proofs.Trees.Stores.{len-views, writes_node, used-view, within-used}
-use Rattle.btree_laws.proofs.Trees.States.{is-tree, pairs-tree}
-use Rattle.btree_raw.specs.Raw.{with_node}
-use Rattle.btree_raw.proofs.StateLemmas.{same-len, same-kept, same-root}
+use Rattle.btree_laws.proofs.Trees.Stores.{within-used}
+use Rattle.btree_raw.proofs.StateLemmas.{same-root}
 use Rattle.btree_find.proofs.FitsLemmas.{item-occupied}
 use Rattle.btree_find.proofs.PlaceLemmas as places
-use Rattle.btree_ext.specs.Exchange.{IsExchanged, IsValueExchanged}
-use Rattle.btree_ext.specs.ValueWritten.{item_written, node_written, value_written}
+use Rattle.btree_ext.specs.ValueWritten.{item_written, node_written}
 use Rattle.btree_ext.specs.WrittenLaws.{set-here}
 
 -- another item is at the address, in a node that is otherwise unchanged; no other node has changed

@@ -1,28 +1,12 @@
 -- The first pair of a tree.
-use Rattle.std.proofs.Common.{◌≡◌, ℕ, [], ◌∷◌, length, Some, None, refl, sym, ap, subst, ◌∙◌, arith}
+use Rattle.btree_ext.proofs.Common.{◌≡◌, ℕ, [], ◌∷◌, length, Some, None, refl, sym, ap, subst, ◌∙◌, arith, insert, Ordering, Address, Node, view_of, leaf, item_in, IsPlace, times_listed, WritesNode, IsStrain, strain_under, TreeState, Changes, IsBTree, node_map, pairs_of, IsWellFormed, times_used, len-views, is-tree, pairs-tree, EMPTY, same-kept, IsInserted}
 use Rattle.std.specs.FinMap as map
-use Rattle.std.specs.List.{insert}
-use Rattle.std.specs.declared.cmp.Ordering.{Ordering}
-use Rattle.btree_item.specs.Address.{Address}
-use Rattle.btree_node.specs.declared.node.Node.{Node}
-use Rattle.btree_node.specs.Node.{view_of}
-use Rattle.btree_view.specs.View.{leaf, item_in}
-use Rattle.btree_laws.specs.Place.{IsPlace}
-use Rattle.btree_laws.specs.Lists.{times_listed}
-use Rattle.btree_laws.specs.Step.{WritesNode}
-use Rattle.btree_laws.specs.Strain.{IsStrain, strain_under}
-use Rattle.btree_laws.specs.TreeState.{TreeState, Changes, IsBTree, node_map, pairs_of}
-use Rattle.btree_laws.specs.WellFormed.{IsWellFormed, times_used}
 use Rattle.btree_laws.proofs.Paths.Used.{full-yes}
 use Rattle.btree_laws.proofs.Splits.Insertion.{first-well}
 use Rattle.btree_laws.proofs.Trees.OneLeaf.{IsOneLeaf, once_here, only-place}
-use Rattle.btree_laws.proofs.Trees.Stores.{len-views}
-use Rattle.btree_laws.proofs.Trees.States.{is-tree, pairs-tree}
-use Rattle.btree_raw.specs.Claimed.{EMPTY}
 use Rattle.btree_raw.specs.Limit.{IsBelowLimit}
 use Rattle.btree_raw.proofs.OnlyLemmas.{only-leaf}
-use Rattle.btree_raw.proofs.StateLemmas.{same-kept}
-use Rattle.btree_ext.specs.Insert.{IsInserted, IsWithinStrain}
+use Rattle.btree_ext.specs.Insert.{IsWithinStrain}
 
 module _ {K V : Type 0} (cmp : K → K → Ordering) (old mid put : TreeState K V) (root : ℕ) (empty : old.root ≡ None) (tree : IsBTree cmp old)
     (node : Node K V) (x : K × V) (claimed : mid ≡ record old { nodes = map.insert old.nodes root EMPTY }) (changes : Changes (λ p q. WritesNode p q root (view_of node)) mid put)

@@ -1,38 +1,23 @@
 -- An item removed from an internal node, with the item before it put in its place, and the leaf's underflow fixed: the
 -- tree afterwards. `removed-from-internal` is the law.
-use Rattle.std.proofs.Common.{◌≡◌, ◌≢◌, ◌∙◌, ◌+◌, ◌<◌, ◌≤◌, ℕ, zero, suc, inl, inr, List, length, set, Option, Some, None, IsSome, IsTrue, refl, sym, ap, subst, option_and_then, option_map, slice_get, arith, ◌^◌}
-use Rattle.std.proofs.lemmas.Option.{slice_get_within}
-use Rattle.std.specs.Cmp.{IsTotalOrder}
+use Rattle.btree_ext.proofs.Common.{◌≡◌, ◌≢◌, ◌∙◌, ◌+◌, ◌<◌, ◌≤◌, ℕ, zero, suc, inl, inr, List, length, set, Option, Some, None, IsSome, IsTrue, refl, sym, ap, subst, option_and_then, option_map, slice_get, arith, ◌^◌, slice_get_within, IsTotalOrder, remove, Ordering, Address, Node, view_of, is_internal, with_other_item, NodeMap, View, leaf, item_in, items_of, children_of, address_at, IsPlace, IsValid, HasItems, WritesNode, TreeState, IsBTree, IsOffByOneAt, IsPlaceIn, IsValidIn, item_of, node_map, pairs_of, IsWellFormed, positions-addressed, item-within, TakesLast, HasRoom, IsRebalanced, IsInnerAt, IsRemoved, LeadsBehind}
 use Rattle.std.specs.FinMap as map
-use Rattle.std.specs.List.{remove}
-use Rattle.std.specs.declared.cmp.Ordering.{Ordering}
-use Rattle.btree_item.specs.Address.{Address}
-use Rattle.btree_node.specs.declared.node.Node.{Node}
-use Rattle.btree_node.specs.Node.{view_of}
-use Rattle.btree_view.specs.Edits.{is_internal, with_other_item}
-use Rattle.btree_view.specs.View.{NodeMap, View, leaf, item_in, items_of, children_of}
 use Rattle.btree_laws.specs.AddressLaws.{IsPlaced}
-use Rattle.btree_laws.specs.Focus.Positions.{address_at}
 use Rattle.btree_laws.specs.Focus.TreePositions.{HasPosition, IsAddressed}
-use Rattle.btree_laws.specs.Place.{IsOccupied, IsPlace, IsValid}
-use Rattle.btree_laws.specs.Step.{HasItems, WritesNode}
-use Rattle.btree_laws.specs.TreeState.{TreeState, IsBTree, IsOffByOneAt, IsPlaceIn, IsValidIn, item_of, node_map, pairs_of}
-use Rattle.btree_laws.specs.WellFormed.{IsNearlySized, IsOffByOne, IsWellFormed}
+use Rattle.btree_laws.specs.Place.{IsOccupied}
+use Rattle.btree_laws.specs.WellFormed.{IsNearlySized, IsOffByOne}
 use Rattle.btree_laws.proofs.Places.InNode.{leaf-along}
-use Rattle.btree_laws.proofs.Places.OfTree.{positions-addressed, well-on}
-use Rattle.btree_laws.proofs.Places.Words.{item-within}
+use Rattle.btree_laws.proofs.Places.OfTree.{well-on}
 use Rattle.btree_laws.proofs.Removal.FromInternal.{RemovedInner, inner-item, inner-removed, place-item}
 use Rattle.btree_laws.proofs.Trees.Density.{height-low}
 use Rattle.btree_laws.proofs.Trees.Numbers.{less-or, same-node}
 use Rattle.btree_laws.proofs.Trees.States.{is-off, pairs-off}
-use Rattle.btree_raw.specs.LastItem.{TakesLast}
-use Rattle.btree_raw.specs.Rebalance.{HasRoom, IsRebalanced}
 use Rattle.btree_raw.proofs.SingleNodeLemmas.{remade-other}
 use Rattle.btree_raw.proofs.UpwardLemmas.{put-used}
 use Rattle.btree_find.specs.Navigation.{IsItemAddress, IsItemAt, IsItemBefore, LeadsBefore}
 use Rattle.btree_find.proofs.PlaceLemmas.{in-tree, only, place-there, placed, root-there}
 use Rattle.btree_find.proofs.PreviousLemmas.{before-below}
-use Rattle.btree_ext.specs.Remove.{IsInnerAt, IsRemoved, LeadsBehind, ReplacesInner}
+use Rattle.btree_ext.specs.Remove.{ReplacesInner}
 use Rattle.btree_ext.proofs.RemoveLemmas.{as-many-used, no-leaf, one-left, remove-shorter, removed-by}
 
 -- the node of a view

@@ -1,20 +1,11 @@
 -- An insertion at an address: the gap at the address in a leaf at its place, and what the insertion there leaves.
-use Rattle.std.proofs.Common.{◌≡◌, ◌≢◌, ℕ, false, Option, Some, None, IsSome, refl, sym, subst, option_and_then, arith}
-use Rattle.std.specs.List.{remove}
-use Rattle.std.specs.Cmp.{IsTotalOrder}
-use Rattle.std.specs.declared.cmp.Ordering.{Ordering}
+use Rattle.btree_ext.proofs.Common.{◌≡◌, ◌≢◌, ℕ, Option, Some, None, IsSome, refl, sym, subst, option_and_then, arith, remove, IsTotalOrder, Ordering, Address, is_internal, View, NodeMap, leaf, internal, item_in, IsLeaf, TreeState, IsBTree, IsPlaceIn, node_map, pairs_of, has-place, IsGapFor, IsInserted}
+use Rattle.std.proofs.Common.{false}
 use Rattle.btree_item.proofs.PairEdits.{remove-insert}
-use Rattle.btree_item.specs.Address.{Address}
-use Rattle.btree_view.specs.Edits.{is_internal}
-use Rattle.btree_view.specs.View.{View, NodeMap, leaf, internal, item_in}
-use Rattle.btree_laws.specs.Place.{IsLeaf}
 use Rattle.btree_raw.specs.Steps.{CanAddItem}
-use Rattle.btree_laws.specs.TreeState.{TreeState, IsBTree, IsPlaceIn, node_map, pairs_of}
 use Rattle.btree_laws.proofs.Trees.ValidPlaces.{place-valid}
 use Rattle.btree_find.specs.Fits.{FitsAt}
 use Rattle.btree_find.specs.Navigation.{IsLeafAddressFor}
-use Rattle.btree_find.proofs.PlaceLemmas.{has-place}
-use Rattle.btree_ext.specs.Insert.{IsGapFor, IsInserted}
 use Rattle.btree_ext.specs.InsertAt.{InsertsAt}
 use Rattle.btree_ext.proofs.LevelLemmas.{need-levels}
 

@@ -1,16 +1,10 @@
 -- An insertion by key: at a key that is there, and at the gap of one that is not.
-use Rattle.std.proofs.Common.{◌≡◌, ℕ, List, Option, Some, None, Ok, Err, IsSome, refl, sym, ◌∙◌, is_some, if◌then◌else◌, slice_get, arith}
-use Rattle.std.specs.Cmp.{IsTotalOrder}
-use Rattle.std.specs.declared.cmp.Ordering.{Ordering}
+use Rattle.btree_ext.proofs.Common.{◌≡◌, ℕ, List, Option, Some, None, Ok, Err, IsSome, refl, sym, ◌∙◌, is_some, if◌then◌else◌, slice_get, arith, IsTotalOrder, Ordering, before, found, found_value, Address, TreeState, IsBTree, pairs_of, IsFoundAt, IsGapAt, IsValueExchanged, IsGapFor, IsInserted}
 use Rattle.btree_item.proofs.PairLemmas.{set-from_Ok, slice_get-from_Ok}
 use Rattle.btree_item.specs.KeyLaws.{cuts_of}
-use Rattle.btree_item.specs.Pairs.{before, found, found_value, inserted}
-use Rattle.btree_item.specs.Address.{Address}
-use Rattle.btree_laws.specs.TreeState.{TreeState, IsBTree, pairs_of}
+use Rattle.btree_item.specs.Pairs.{inserted}
 use Rattle.btree_laws.proofs.Options.{some-none}
-use Rattle.btree_find.specs.Answers.{IsFoundAt, IsGapAt}
-use Rattle.btree_ext.specs.Exchange.{IsValueExchanged}
-use Rattle.btree_ext.specs.Insert.{IsGapFor, IsInserted, InsertsByKey}
+use Rattle.btree_ext.specs.Insert.{InsertsByKey}
 use Rattle.btree_ext.proofs.LevelLemmas.{need-levels}
 
 err-none : {X : Type 0} (n m i : ℕ) (o : Option X) → (if is_some o then Ok n else Err m) ≡ Err i → (o ≡ None) × (m ≡ i)

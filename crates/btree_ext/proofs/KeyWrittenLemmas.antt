@@ -1,19 +1,13 @@
 -- A value written at a key: at its address, and in the list.
-use Rattle.std.proofs.Common.{◌≡◌, ◌∙◌, Some, sym, ap, slice_get, subst, unwrap_or}
-use Rattle.std.specs.Cmp.{IsTotalOrder}
-use Rattle.std.specs.declared.cmp.Ordering.{Ordering}
+use Rattle.btree_ext.proofs.Common.{◌≡◌, ◌∙◌, Some, sym, ap, slice_get, subst, IsTotalOrder, Ordering, Address, before-from_Ok, address_at, TreeState, IsBTree, pairs_of, IsFoundAt, IsValueExchanged, address_at_key, value_written}
+use Rattle.std.proofs.Common.{unwrap_or}
 use Rattle.btree_item.specs.KeyLaws.{cuts_of}
 use Rattle.btree_item.specs.Keys.{Cuts}
-use Rattle.btree_item.specs.Address.{Address}
-use Rattle.btree_item.proofs.PairLemmas.{before-from_Ok, set-from_Ok}
-use Rattle.btree_laws.specs.Focus.Positions.{address_at}
+use Rattle.btree_item.proofs.PairLemmas.{set-from_Ok}
 use Rattle.btree_laws.specs.Place.{NOWHERE}
 use Rattle.btree_laws.specs.TreeAddresses.{item_addresses_of}
-use Rattle.btree_laws.specs.TreeState.{TreeState, IsBTree, pairs_of}
-use Rattle.btree_find.specs.Answers.{IsFoundAt, IsFoundBy}
-use Rattle.btree_ext.specs.Exchange.{IsValueExchanged}
-use Rattle.btree_ext.specs.KeyWritten.{ExchangesValue, ExchangesValueBy, address_at_key, key_written}
-use Rattle.btree_ext.specs.ValueWritten.{value_written}
+use Rattle.btree_find.specs.Answers.{IsFoundBy}
+use Rattle.btree_ext.specs.KeyWritten.{ExchangesValue, ExchangesValueBy, key_written}
 use Rattle.btree_ext.proofs.ExchangeLemmas.{written-tree}
 
 -- a value written at a key, or at none, leaves a well formed tree

@@ -1,20 +1,14 @@
 -- How many nodes an insertion needs, against the number of levels.
-use Rattle.std.proofs.Common.{◌<◌, ◌≤◌, ◌+◌, ℕ, inl, inr, List, [], Option, Some, None, arith}
+use Rattle.btree_ext.proofs.Common.{◌<◌, ◌≤◌, ◌+◌, ℕ, inl, inr, List, [], Option, Some, None, arith, Ordering, Address, View, NodeMap, leaf, internal, need, IsLeaf, TreeState, IsBTree, IsLeafAddressIn, node_map, nodes_needed, pairs_of, IsSized, IsWellFormed, times_used, height_held}
 use Rattle.std.specs.FinMap as map
-use Rattle.std.specs.declared.cmp.Ordering.{Ordering}
-use Rattle.btree_item.specs.Address.{Address}
-use Rattle.btree_view.specs.View.{View, NodeMap, leaf, internal}
-use Rattle.btree_laws.specs.Need.{need}
-use Rattle.btree_laws.specs.Place.{IsLeaf, IsLeafAddress}
+use Rattle.btree_laws.specs.Place.{IsLeafAddress}
 use Rattle.btree_laws.specs.Focus.Subtree.{count_at}
-use Rattle.btree_laws.specs.TreeState.{TreeState, HasLevels, HasLevelsUnder, IsBTree, IsLeafAddressIn, node_map, nodes_needed, pairs_of}
-use Rattle.btree_laws.specs.WellFormed.{IsSized, IsWellFormed, times_used}
+use Rattle.btree_laws.specs.TreeState.{HasLevels, HasLevelsUnder}
 use Rattle.btree_laws.proofs.Splits.Need.{split_need-node}
 use Rattle.btree_laws.proofs.Paths.Levels.{levels-rooted}
 use Rattle.btree_laws.proofs.Underflow.Order.{one-height}
 use Rattle.btree_laws.proofs.Paths.FromRoot.{node-at}
 use Rattle.btree_laws.proofs.Paths.UnsizedFocus.{focus-unsized}
-use Rattle.btree_laws.proofs.Trees.States.{height_held}
 use Rattle.btree_raw.proofs.NeedLemmas.{path_need_from-few}
 
 pub leaf-used : {A : Type 0} (node_at : NodeMap A) (o : Option (View A)) → IsLeaf node_at o → 0 < times_used o

@@ -1,18 +1,9 @@
 -- No edit leads beyond the limit of the length: an insertion is granted below it alone, and the other edits add no pair.
-use Rattle.std.proofs.Common.{◌≡◌, ℕ, Option, Some, None, Result, Ok, Err, IfErr, IfOk, ap, arith}
-use Rattle.std.specs.declared.cmp.Ordering.{Ordering}
-use Rattle.btree_store.specs.Content.{Content}
-use Rattle.btree_item.specs.Address.{Address}
-use Rattle.btree_item.specs.declared.refused.Cause.{Cause}
+use Rattle.btree_ext.proofs.Common.{◌≡◌, ℕ, Option, Some, None, Result, Ok, Err, ap, arith, Ordering, Content, Address, Cause, Node, Kept, TreeState, IsRefused, IsExchanged, IsInserted, IsRemoved, RunsAt}
+use Rattle.std.proofs.Common.{IfErr, IfOk}
 use Rattle.btree_item.specs.declared.refused.Cause.TheVariants.{Store, Count}
-use Rattle.btree_node.specs.declared.node.Node.{Node}
-use Rattle.btree_laws.specs.TreeState.{Kept, TreeState}
-use Rattle.btree_raw.specs.Insertion.{IsRefused}
 use Rattle.btree_raw.specs.Limit.{IsWithinLimit}
-use Rattle.btree_ext.specs.Exchange.{IsExchanged}
-use Rattle.btree_ext.specs.Insert.{IsInserted}
-use Rattle.btree_ext.specs.Remove.{IsRemoved}
-use Rattle.btree_ext.specs.Update.{RunsAt, RunsAtGap, UpdatesAt, UpdatesGap}
+use Rattle.btree_ext.specs.Update.{RunsAtGap, UpdatesAt, UpdatesGap}
 
 module _ {K V : Type 0} (cmp : K → K → Ordering) (old new : TreeState K V) where
   same-limit : new.kept ≡ old.kept → new.kept.limit ≡ old.kept.limit

@@ -1,35 +1,22 @@
 -- A pair inserted into a leaf of a tree that is not empty: what the steps require, and what they leave.
-use Rattle.std.proofs.Common.{◌≡◌, ◌≢◌, ℕ, suc, ◌+◌, ◌≤◌, inl, inr, List, [], ◌++◌, length, length-append, Option, Some, None, IsSome, refl, sym, ap, subst, ◌∙◌, option_map, option_and_then, slice_get, arith}
-use Rattle.std.proofs.lemmas.Option.{slice_get_within}
-use Rattle.std.specs.Cmp.{IsTotalOrder}
+use Rattle.btree_ext.proofs.Common.{◌≡◌, ◌≢◌, ℕ, suc, ◌+◌, ◌≤◌, inl, inr, List, [], length, Option, Some, None, IsSome, refl, sym, ap, subst, ◌∙◌, option_map, option_and_then, slice_get, arith, slice_get_within, IsTotalOrder, insert, Ordering, Address, View, NodeMap, leaf, internal, item_in, most_of, size_of, need, IsPlace, IsLeaf, times_listed, numbers_under, WritesNode, IsStrain, strain_under, address_at, TreeState, Changes, IsBTree, IsPlaceIn, IsUsed, node_map, nodes_needed, pairs_of, IsSized, IsWellFormed, times_used, same-or, used-view, len-views, height_held, is-tree, pairs-tree, same-len, same-kept, IsGapFor, IsInserted}
+use Rattle.std.proofs.Common.{◌++◌, length-append}
 use Rattle.std.specs.FinMap as map
-use Rattle.std.specs.List.{insert}
-use Rattle.std.specs.declared.cmp.Ordering.{Ordering}
-use Rattle.btree_item.specs.Address.{Address}
 use Rattle.btree_view.specs.Edits.{with_item}
-use Rattle.btree_view.specs.View.{View, NodeMap, leaf, internal, item_in, most_of, size_of}
 use Rattle.btree_laws.specs.Focus.Overflow.{MayOverflowAt, IsRepaired}
-use Rattle.btree_laws.specs.Need.{need}
-use Rattle.btree_laws.specs.Place.{IsPlace, IsPlaceOf, IsEnd, IsLeaf}
-use Rattle.btree_laws.specs.Lists.{times_listed}
-use Rattle.btree_laws.specs.Represents.{numbers_under}
-use Rattle.btree_laws.specs.Step.{Claims, WritesNode}
-use Rattle.btree_laws.specs.Strain.{IsStrain, strain_under}
-use Rattle.btree_laws.specs.Focus.Positions.{address_at}
-use Rattle.btree_laws.specs.TreeState.{TreeState, Changes, IsBTree, IsPlaceIn, IsUsed, node_map, nodes_needed, pairs_of, views}
-use Rattle.btree_laws.specs.WellFormed.{IsSized, IsWellFormed, times_used}
-use Rattle.btree_laws.proofs.Trees.Numbers.{less-or, listed-append, same-or, used-low, used-one}
+use Rattle.btree_laws.specs.Place.{IsPlaceOf, IsEnd}
+use Rattle.btree_laws.specs.Step.{Claims}
+use Rattle.btree_laws.specs.TreeState.{views}
+use Rattle.btree_laws.proofs.Trees.Numbers.{less-or, listed-append, used-low, used-one}
 use Rattle.btree_laws.proofs.Places.OnePlace.{one_place-well}
 use Rattle.btree_laws.proofs.Splits.Insertion.{leaf-overflow, repaired-well, repaired-address, repaired-within, repaired-rooted}
-use Rattle.btree_laws.proofs.Trees.Stores.{used-view, len-views}
-use Rattle.btree_laws.proofs.Trees.States.{height_held, is-tree, pairs-tree}
 use Rattle.btree_raw.proofs.ClaimLemmas.{claims-low, claims-focus}
 use Rattle.btree_raw.proofs.UpwardLemmas.{upward-done, upward-left, upward-start}
-use Rattle.btree_raw.proofs.StateLemmas.{same-len, same-kept, same-root}
+use Rattle.btree_raw.proofs.StateLemmas.{same-root}
 use Rattle.btree_raw.specs.Claimed.{AreClaimed}
 use Rattle.btree_raw.specs.Steps.{AddsItem, AreSplit, CanAddItem, IsSplitting, SplitsUpward}
 use Rattle.btree_raw.specs.Limit.{IsBelowLimit}
-use Rattle.btree_ext.specs.Insert.{IsGapFor, IsInserted, IsWithinStrain}
+use Rattle.btree_ext.specs.Insert.{IsWithinStrain}
 
 module _ {K V : Type 0} where
   leaf-there : (o : Option (View (K × V))) → IsLeaf (λ n. o) o → (p : Option ℕ) × (ys : List (K × V)) × (o ≡ Some (leaf p ys))

@@ -1,14 +1,6 @@
 -- What a refused insertion leaves, said of the list.
-use Rattle.std.proofs.Common.{ℕ, ap, arith}
-use Rattle.std.specs.declared.cmp.Ordering.{Ordering}
-use Rattle.btree_item.specs.Address.{Address}
-use Rattle.btree_item.specs.declared.refused.Cause.{Cause}
+use Rattle.btree_ext.proofs.Common.{ℕ, ap, arith, Ordering, Address, Cause, Node, Content, TreeState, IsBTree, pairs_of, IsRefused, IsGapAt}
 use Rattle.btree_item.specs.declared.refused.Cause.TheVariants.{Store, Count}
-use Rattle.btree_node.specs.declared.node.Node.{Node}
-use Rattle.btree_store.specs.Content.{Content}
-use Rattle.btree_laws.specs.TreeState.{TreeState, IsBTree, pairs_of}
-use Rattle.btree_raw.specs.Insertion.{IsRefused}
-use Rattle.btree_find.specs.Answers.{IsGapAt}
 use Rattle.btree_find.specs.Navigation.{IsLeafAddressFor}
 use Rattle.btree_ext.specs.Insert.{IsRefusedAtGap, LeavesPairs}
 use Rattle.btree_ext.specs.InsertAt.{IsRefusedAt}

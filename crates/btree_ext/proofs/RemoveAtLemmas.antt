@@ -1,31 +1,21 @@
 -- The steps of a removal at an address: what a node returned, and the tree in between.
-use Rattle.std.proofs.Common.{◌≡◌, ◌∙◌, ◌+◌, ◌<◌, ◌≤◌, ◌^◌, ℕ, suc, List, length, Option, Some, None, Ok, Err, OnOk, OnErr, Result, IsTrue, refl, sym, ap, subst, option_map, option_and_then, slice_get, arith}
-use Rattle.std.proofs.lemmas.Option.{same_Some, slice_get_within}
-use Rattle.std.specs.Cmp.{IsTotalOrder}
+use Rattle.btree_ext.proofs.Common.{◌≡◌, ◌∙◌, ◌+◌, ◌<◌, ◌≤◌, ◌^◌, ℕ, suc, List, length, Option, Some, None, Ok, Err, Result, IsTrue, refl, sym, ap, subst, option_map, option_and_then, slice_get, arith, slice_get_within, IsTotalOrder, remove, Ordering, Address, Node, view_of, is_internal, leaf, children_of, item_in, items_of, size_of, address_at, WritesNode, TreeState, IsBTree, IsOffByOneAt, IsPlaceIn, IsUsed, IsValidIn, item_of, node_map, pairs_of, IsWellFormed, writes_node, with_node, HasRoom, IsRebalanced, HasChildBehind, IsInnerAt, IsRemoved, LeadsBehind}
+use Rattle.std.proofs.Common.{OnOk, OnErr}
+use Rattle.std.proofs.lemmas.Option.{same_Some}
 use Rattle.std.specs.FinMap as finite
-use Rattle.std.specs.List.{remove}
-use Rattle.std.specs.declared.cmp.Ordering.{Ordering}
-use Rattle.btree_item.specs.Address.{Address}
-use Rattle.btree_node.specs.declared.node.Node.{Node}
-use Rattle.btree_node.specs.Node.{view_of}
-use Rattle.btree_view.specs.Edits.{is_internal, without_at}
+use Rattle.btree_view.specs.Edits.{without_at}
 use Rattle.btree_view.specs.Removal.{removal_in}
-use Rattle.btree_view.specs.View.{leaf, children_in, children_of, item_in, items_of, size_of}
+use Rattle.btree_view.specs.View.{children_in}
 use Rattle.btree_view.proofs.RemovalLemmas.{child-from_removal, item-from_removal, no_item-from_removal}
-use Rattle.btree_laws.specs.Focus.Positions.{address_at, address_before}
-use Rattle.btree_laws.specs.Step.{WritesNode}
-use Rattle.btree_laws.specs.TreeState.{TreeState, IsBTree, IsOffByOneAt, IsPlaceIn, IsUsed, IsValidIn, item_of, node_map, pairs_of}
-use Rattle.btree_laws.specs.WellFormed.{IsWellFormed}
-use Rattle.btree_laws.proofs.Trees.Stores.{item-some, writes_node}
+use Rattle.btree_laws.specs.Focus.Positions.{address_before}
+use Rattle.btree_laws.proofs.Trees.Stores.{item-some}
 use Rattle.btree_laws.proofs.Paths.SiblingNumbers.{children-count}
-use Rattle.btree_raw.specs.Raw.{with_node}
-use Rattle.btree_raw.specs.Rebalance.{HasRoom, IsRebalanced}
 use Rattle.btree_raw.proofs.RebalanceLemmas.{enough-rebalanced}
 use Rattle.btree_find.specs.Navigation.{AreBeside, LeadsToItem}
 use Rattle.btree_find.proofs.NextLemmas.{next-below}
 use Rattle.btree_find.proofs.PreviousLemmas.{below-used}
 use Rattle.btree_find.proofs.WalkLemmas.{occupied-below}
-use Rattle.btree_ext.specs.Remove.{HasChildBehind, IsInnerAt, IsRemoved, LeadsBehind, RebalancesLeaf}
+use Rattle.btree_ext.specs.Remove.{RebalancesLeaf}
 use Rattle.btree_ext.proofs.InnerLemmas.{node-of}
 use Rattle.btree_ext.proofs.RemoveLemmas.{removed-from-leaf, taken-counted, taken-off, taken-room, taken-valid}
 use Rattle.btree_ext.specs.WrittenLaws.{no-node}

@@ -1,17 +1,10 @@
 -- A removal by key or by another query: at the address of a key that is there, and the list of it, where the key is there or not.
-use Rattle.std.proofs.Common.{◌≡◌, ◌∙◌, List, Option, Some, None, IfSome, sym, subst, ap, slice_get}
-use Rattle.std.specs.Cmp.{IsTotalOrder}
-use Rattle.std.specs.List.{remove}
-use Rattle.std.specs.declared.cmp.Ordering.{Ordering}
+use Rattle.btree_ext.proofs.Common.{◌≡◌, ◌∙◌, List, Option, Some, None, IfSome, sym, subst, ap, slice_get, IsTotalOrder, remove, Ordering, before, found, Address, before-from_Ok, TreeState, IsBTree, pairs_of, else-none, then-some, IsFoundAt, IsRemoved}
 use Rattle.btree_item.specs.Keys.{Cuts}
-use Rattle.btree_item.specs.Pairs.{before, found}
-use Rattle.btree_item.specs.Address.{Address}
-use Rattle.btree_item.proofs.PairLemmas.{before-from_Ok, slice_get-from_Ok}
-use Rattle.btree_laws.specs.TreeState.{TreeState, IsBTree, pairs_of}
-use Rattle.btree_laws.proofs.Options.{else-none, then-some}
-use Rattle.btree_find.specs.Answers.{IsFoundAt, IsFoundBy, IsGapBy}
+use Rattle.btree_item.proofs.PairLemmas.{slice_get-from_Ok}
+use Rattle.btree_find.specs.Answers.{IsFoundBy, IsGapBy}
 use Rattle.btree_find.proofs.SearchLemmas.{found-at}
-use Rattle.btree_ext.specs.Remove.{IsRemoved, RemovesBy, RemovesByKey, removed}
+use Rattle.btree_ext.specs.Remove.{RemovesBy, RemovesByKey, removed}
 
 -- a key that is not there
 pub removed-absent : {K Q V : Type 0} (compare : K → Q → Ordering) (old : TreeState K V) (k : Q) (a : Address) → IsGapBy compare k old a

@@ -1,25 +1,12 @@
 -- The steps of a removal from an internal node, in the order of the code: the last item under the left child is taken,
 -- it replaces the removed one, the length is set, and the leaf's underflow is fixed.
-use Rattle.std.proofs.Common.{◌≡◌, ◌∙◌, ◌+◌, ◌<◌, ◌≤◌, ◌^◌, ℕ, set, Option, Some, IsSome, IsTrue, IsSomeAnd, refl, sym, ap, subst, option_map, slice_get, arith}
-use Rattle.std.proofs.lemmas.Option.{slice_get_within}
-use Rattle.std.specs.Cmp.{IsTotalOrder}
+use Rattle.btree_ext.proofs.Common.{◌≡◌, ◌∙◌, ◌+◌, ◌<◌, ◌≤◌, ◌^◌, ℕ, set, Option, Some, IsSome, IsTrue, IsSomeAnd, refl, sym, ap, subst, option_map, slice_get, arith, slice_get_within, IsTotalOrder, Ordering, Address, Node, view_of, is_internal, with_other_item, with_other_item_at, View, items_of, size_of, HasItems, WritesNode, TreeState, IsBTree, IsOffByOneAt, IsUsed, IsValidIn, node_map, writes_node, TakesLast, with_node, HasRoom, IsRebalanced, HasCount, HasParent, IsInnerAt, IsRemoved, LeadsBehind}
 use Rattle.std.specs.FinMap as finite
-use Rattle.std.specs.declared.cmp.Ordering.{Ordering}
-use Rattle.btree_item.specs.Address.{Address}
-use Rattle.btree_node.specs.declared.node.Node.{Node}
-use Rattle.btree_node.specs.Node.{view_of}
-use Rattle.btree_view.specs.Edits.{is_internal, with_other_item, with_other_item_at}
-use Rattle.btree_view.specs.View.{View, item_at_offset, items_of, parent_of, size_of}
-use Rattle.btree_laws.specs.Step.{HasItems, WritesNode}
-use Rattle.btree_laws.specs.TreeState.{TreeState, IsBTree, IsOffByOneAt, IsUsed, IsValidIn, node_map}
-use Rattle.btree_laws.proofs.Trees.Stores.{view-at, writes_node}
-use Rattle.btree_raw.specs.LastItem.{TakesLast}
-use Rattle.btree_raw.specs.Raw.{with_node}
-use Rattle.btree_raw.specs.Rebalance.{HasRoom, IsRebalanced}
-use Rattle.btree_raw.specs.Steps.{HasCount, HasParent}
+use Rattle.btree_view.specs.View.{item_at_offset, parent_of}
+use Rattle.btree_laws.proofs.Trees.Stores.{view-at}
 use Rattle.btree_raw.proofs.RebalanceLemmas.{enough-rebalanced}
 use Rattle.btree_raw.proofs.StepLemmas.{size-at}
-use Rattle.btree_ext.specs.Remove.{IsInnerAt, IsRemoved, LeadsBehind, ReplacesInner}
+use Rattle.btree_ext.specs.Remove.{ReplacesInner}
 use Rattle.btree_ext.proofs.InnerLemmas.{apart, inner-counted, inner-off, inner-room, inner-valid, node-of, other-items, removed-from-internal}
 
 -- a length that was read

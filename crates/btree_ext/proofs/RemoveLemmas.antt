@@ -1,39 +1,24 @@
 -- An item removed and the underflow fixed: the tree afterwards. The law for any removal is `removed-by`; for one from a
 -- leaf it is `removed-from-leaf`.
-use Rattle.std.proofs.Common.{◌≡◌, ◌∙◌, ◌+◌, ◌<◌, ◌≤◌, ℕ, suc, inl, inr, List, length, Option, Some, None, IsSome, IsTrue, refl, sym, ap, subst, option_and_then, slice_get, arith, ◌^◌}
+use Rattle.btree_ext.proofs.Common.{◌≡◌, ◌∙◌, ◌+◌, ◌<◌, ◌≤◌, ℕ, suc, inl, inr, List, length, Option, Some, None, IsSome, IsTrue, refl, sym, ap, subst, option_and_then, slice_get, arith, ◌^◌, slice_get_within, IsTotalOrder, insert, remove, Ordering, Address, is_internal, NodeMap, View, leaf, internal, children_of, item_in, most_of, size_of, address_at, times_listed, IsLeaf, IsPlace, IsValid, numbers_under, WritesNode, IsStrain, strain_under, TreeState, IsBTree, IsLeafAddressIn, IsOffByOneAt, IsPlaceIn, IsValidIn, item_of, node_map, pairs_of, IsSized, IsWellFormed, times_used, positions-addressed, item-within, len-views, HasRoom, IsRebalanced, has-place, IsInnerAt, IsRemoved}
 use Rattle.std.proofs.lemmas.List.Edits.{length-remove}
-use Rattle.std.proofs.lemmas.Option.{slice_get_within}
-use Rattle.std.specs.Cmp.{IsTotalOrder}
 use Rattle.std.specs.FinMap as map
-use Rattle.std.specs.List.{insert, remove}
-use Rattle.std.specs.declared.cmp.Ordering.{Ordering}
-use Rattle.btree_item.specs.Address.{Address}
 use Rattle.btree_item.specs.Pairs.{KeyFits}
 use Rattle.btree_item.proofs.PairEdits.{insert-remove}
-use Rattle.btree_view.specs.Edits.{is_internal}
-use Rattle.btree_view.specs.View.{NodeMap, View, leaf, internal, children_of, item_in, most_of, size_of}
-use Rattle.btree_laws.specs.Focus.Positions.{address_at}
 use Rattle.btree_laws.specs.Focus.TreePositions.{IsAddressed}
-use Rattle.btree_laws.specs.Lists.{times_listed}
-use Rattle.btree_laws.specs.Place.{IsLeaf, IsPlace, IsValid}
-use Rattle.btree_laws.specs.Represents.{Represents, numbers_under}
-use Rattle.btree_laws.specs.Step.{WritesNode}
-use Rattle.btree_laws.specs.Strain.{IsStrain, debt_of, strain_under}
-use Rattle.btree_laws.specs.TreeState.{TreeState, HasLevels, HasLevelsUnder, HasStrain, IsBTree, IsLeafAddressIn, IsOffByOneAt, IsPlaceIn, IsValidIn, item_of, node_map, pairs_of}
-use Rattle.btree_laws.specs.WellFormed.{IsNearlySized, IsOffByOne, IsSized, IsWellFormed, times_used}
-use Rattle.btree_laws.proofs.Places.OfTree.{positions-addressed, valid-on}
-use Rattle.btree_laws.proofs.Places.Words.{item-within}
+use Rattle.btree_laws.specs.Represents.{Represents}
+use Rattle.btree_laws.specs.Strain.{debt_of}
+use Rattle.btree_laws.specs.TreeState.{HasLevels, HasLevelsUnder, HasStrain}
+use Rattle.btree_laws.specs.WellFormed.{IsNearlySized, IsOffByOne}
+use Rattle.btree_laws.proofs.Places.OfTree.{valid-on}
 use Rattle.btree_laws.proofs.Removal.FromTree.{take-address, take-height, take-item, take-off, take-within}
 use Rattle.btree_laws.proofs.Strain.OneStrain.{one-strain}
 use Rattle.btree_laws.proofs.Trees.Density.{height-low}
 use Rattle.btree_laws.proofs.Trees.States.{is-off, pairs-off}
-use Rattle.btree_laws.proofs.Trees.Stores.{len-views}
 use Rattle.btree_laws.proofs.Underflow.Order.{one-height}
-use Rattle.btree_raw.specs.Rebalance.{HasRoom, IsRebalanced}
 use Rattle.btree_raw.proofs.UpwardLemmas.{put-used}
 use Rattle.btree_find.specs.Fits.{FitsAt}
-use Rattle.btree_find.proofs.PlaceLemmas.{has-place}
-use Rattle.btree_ext.specs.Remove.{FreesWithinStrain, IsInnerAt, IsRemoved, RebalancesLeaf, ReplacesIfInner, TakesFromLeaf}
+use Rattle.btree_ext.specs.Remove.{FreesWithinStrain, RebalancesLeaf, ReplacesIfInner, TakesFromLeaf}
 use Rattle.btree_ext.proofs.ReplaceLemmas.{fits-removed}
 
 -- one element less than before

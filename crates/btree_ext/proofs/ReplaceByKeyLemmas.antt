@@ -1,16 +1,7 @@
 -- A replacement by key: at a key that is there, and at the gap of one that is not.
-use Rattle.std.proofs.Common.{◌≡◌, ◌∙◌, List, Option, Some, None, sym, ap, set}
-use Rattle.std.specs.Cmp.{IsTotalOrder}
-use Rattle.std.specs.List.{insert}
-use Rattle.std.specs.declared.cmp.Ordering.{Ordering}
-use Rattle.btree_item.proofs.PairLemmas.{before-from_Err, before-from_Ok}
-use Rattle.btree_item.specs.Pairs.{before, found}
-use Rattle.btree_item.specs.Address.{Address}
-use Rattle.btree_laws.specs.TreeState.{TreeState, IsBTree, item_of, pairs_of}
-use Rattle.btree_laws.proofs.Options.{else-none, some-none, then-some}
-use Rattle.btree_find.specs.Answers.{IsFoundAt, IsGapAt}
-use Rattle.btree_ext.specs.Exchange.{IsExchanged}
-use Rattle.btree_ext.specs.Insert.{IsInserted}
+use Rattle.btree_ext.proofs.Common.{◌≡◌, ◌∙◌, List, Option, Some, None, sym, ap, set, IsTotalOrder, insert, Ordering, before-from_Ok, before, found, Address, TreeState, IsBTree, item_of, pairs_of, else-none, then-some, IsFoundAt, IsGapAt, IsExchanged, IsInserted}
+use Rattle.btree_item.proofs.PairLemmas.{before-from_Err}
+use Rattle.btree_laws.proofs.Options.{some-none}
 use Rattle.btree_ext.specs.Replace.{ReplacesByKey, replaced}
 use Rattle.btree_ext.proofs.InsertLemmas.{absent, put-inserted_by_key}
 

@@ -1,19 +1,12 @@
 -- A pair of an ascending list replaced by one whose key lies between its neighbours.
-use Rattle.std.proofs.Common.{◌≡◌, ◌<◌, ◌≤◌, ◌∙◌, ℕ, zero, suc, List, [], ◌∷◌, length, set, Some, slice_get, refl, sym, ap, subst, arith}
+use Rattle.btree_ext.proofs.Common.{◌≡◌, ◌<◌, ◌≤◌, ◌∙◌, ℕ, zero, suc, List, [], ◌∷◌, length, set, Some, slice_get, refl, sym, ap, subst, arith, slice_get_within, IsTotalOrder, insert, remove, Ordering, Address, TreeState, Changes, IsBTree, pairs_of, IsExchanged}
 use Rattle.std.proofs.lemmas.List.Edits.{length-remove}
-use Rattle.std.proofs.lemmas.Option.{slice_get_within}
-use Rattle.std.specs.Cmp.{IsTotalOrder}
-use Rattle.std.specs.List.{insert, remove}
-use Rattle.std.specs.declared.cmp.Ordering.{Ordering}
 use Rattle.std.specs.declared.cmp.Ordering.TheVariants.{Less}
 use Rattle.btree_item.specs.Pairs.{Ascends, KeyFits}
-use Rattle.btree_item.specs.Address.{Address}
 use Rattle.btree_item.proofs.PairEdits.{Ascends-insert}
-use Rattle.btree_laws.specs.TreeState.{TreeState, Changes, IsBTree, pairs_of}
 use Rattle.btree_laws.proofs.LookUp.KeyInList.{Rises, rises}
 use Rattle.btree_laws.proofs.Removal.FromTree.{Ascends-remove}
 use Rattle.btree_find.specs.Fits.{KeyReplaces, ReplacesAt}
-use Rattle.btree_ext.specs.Exchange.{IsExchanged}
 use Rattle.btree_ext.proofs.ExchangeLemmas.{ExchangesAt, at-place, exchanged, listed, place-on}
 
 module _ {X : Type 0} where

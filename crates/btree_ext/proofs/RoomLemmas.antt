@@ -1,19 +1,13 @@
 -- The nodes that a tree has and those that an insertion at a leaf needs are together at most a third of the pairs that
 -- there are then, rounded up; so a store of enough places refuses none of them.
-use Rattle.std.proofs.Common.{◌≡◌, ◌≤◌, ◌+◌, ◌*◌, ℕ, inl, inr, List, [], Option, Some, None, refl, arith}
+use Rattle.btree_ext.proofs.Common.{◌≡◌, ◌≤◌, ◌+◌, ℕ, inl, inr, List, [], Option, Some, None, refl, arith, Ordering, Address, need, TreeState, IsBTree, IsLeafAddressIn, node_map, nodes_needed, pairs_of, IsSized, IsWellFormed, height_held, len-views}
+use Rattle.std.proofs.Common.{◌*◌}
 use Rattle.std.specs.FinMap as map
-use Rattle.std.specs.declared.cmp.Ordering.{Ordering}
-use Rattle.btree_item.specs.Address.{Address}
-use Rattle.btree_laws.specs.Need.{need}
 use Rattle.btree_laws.specs.Place.{IsLeafAddress}
-use Rattle.btree_laws.specs.TreeState.{TreeState, IsBTree, IsLeafAddressIn, node_map, nodes_needed, pairs_of}
-use Rattle.btree_laws.specs.WellFormed.{IsSized, IsWellFormed}
 use Rattle.btree_laws.proofs.Paths.FromRoot.{node-at}
 use Rattle.btree_laws.proofs.Paths.Levels.{levels-rooted}
 use Rattle.btree_laws.proofs.Paths.UnsizedFocus.{focus-unsized}
 use Rattle.btree_laws.proofs.Splits.Room.{need-room}
-use Rattle.btree_laws.proofs.Trees.States.{height_held}
-use Rattle.btree_laws.proofs.Trees.Stores.{len-views}
 use Rattle.btree_ext.proofs.LevelLemmas.{leaf-used}
 
 module _ {K V : Type 0} (cmp : K → K → Ordering) (s : TreeState K V) where

@@ -1,13 +1,10 @@
 -- Trees within their limits: one without pairs, one that was given another limit, and one in which a value was written.
-use Rattle.std.proofs.Common.{◌≡◌, ℕ, ◌≤◌, length, Option, Some, None, ap, sym, subst, arith}
+use Rattle.btree_ext.proofs.Common.{◌≡◌, ℕ, ◌≤◌, length, Option, Some, None, ap, sym, subst, arith, Ordering, Address, Node, Kept, TreeState, IsBTree, pairs_of, with_limit, value_written}
 use Rattle.std.specs.FinMap as map
-use Rattle.std.specs.declared.cmp.Ordering.{Ordering}
-use Rattle.btree_item.specs.Address.{Address}
-use Rattle.btree_node.specs.declared.node.Node.{Node}
-use Rattle.btree_laws.specs.TreeState.{Kept, TreeState, IsBTree, pairs_of, rootless, with_limit}
+use Rattle.btree_laws.specs.TreeState.{rootless}
 use Rattle.btree_laws.proofs.Trees.States.{empty-tree}
 use Rattle.btree_raw.specs.Limit.{IsBTreeWithinLimit, IsWithinLimit}
-use Rattle.btree_ext.specs.ValueWritten.{node_written, value_written}
+use Rattle.btree_ext.specs.ValueWritten.{node_written}
 
 module _ {K V : Type 0} (cmp : K → K → Ordering) where
   pub empty-within : (s : TreeState K V) (kept : Kept) → s ≡ rootless map.empty kept → IsBTreeWithinLimit s cmp

@@ -1,24 +1,11 @@
 -- An update of a pair in an internal node: the last pair under the child before it was in its place, and goes back.
-use Rattle.std.proofs.Common.{◌≡◌, ◌≢◌, ◌∙◌, ◌<◌, ◌≤◌, ◌^◌, ◌++◌, ℕ, zero, suc, inl, inr, List, [], ◌∷◌, length, set, Option, Some, None, IsSome, IsTrue, IsSomeAnd, refl, sym, ap, subst, option_map, option_and_then, slice_get, arith}
-use Rattle.std.proofs.lemmas.Option.{slice_get_within}
-use Rattle.std.specs.Cmp.{IsTotalOrder}
+use Rattle.btree_ext.proofs.Common.{◌≡◌, ◌≢◌, ◌∙◌, ◌<◌, ◌≤◌, ◌^◌, ℕ, zero, suc, inl, inr, List, [], ◌∷◌, length, set, Option, Some, None, IsSome, IsTrue, IsSomeAnd, refl, sym, ap, subst, option_map, option_and_then, slice_get, arith, slice_get_within, IsTotalOrder, remove, Ordering, get-insert_same, Address, Node, view_of, is_internal, with_other_item, with_other_item_at, View, leaf, item_in, items_of, most_of, size_of, HasItems, WritesNode, TreeState, Changes, IsBTree, IsUsed, item_of, node_map, same-or, TakesLast, with_node, IsValueExchanged, IsInnerAt}
+use Rattle.std.proofs.Common.{◌++◌}
 use Rattle.std.specs.FinMap as finite
-use Rattle.std.specs.List.{remove}
-use Rattle.std.specs.declared.cmp.Ordering.{Ordering}
-use Rattle.btree_store.specs.ContentLaws.{get-insert_other, get-insert_same}
-use Rattle.btree_item.specs.Address.{Address}
-use Rattle.btree_node.specs.declared.node.Node.{Node}
-use Rattle.btree_node.specs.Node.{view_of}
-use Rattle.btree_view.specs.Edits.{HasChildFor, is_internal, pushed_right, with_other_item, with_other_item_at}
-use Rattle.btree_view.specs.View.{View, leaf, item_at_offset, item_in, items_of, most_of, size_of}
-use Rattle.btree_laws.specs.Step.{HasItems, WritesNode}
-use Rattle.btree_laws.specs.TreeState.{TreeState, Changes, IsBTree, IsUsed, item_of, node_map}
-use Rattle.btree_laws.proofs.Trees.Numbers.{same-or}
+use Rattle.btree_store.specs.ContentLaws.{get-insert_other}
+use Rattle.btree_view.specs.Edits.{HasChildFor, pushed_right}
+use Rattle.btree_view.specs.View.{item_at_offset}
 use Rattle.btree_laws.proofs.Trees.Stores.{view-at}
-use Rattle.btree_raw.specs.LastItem.{TakesLast}
-use Rattle.btree_raw.specs.Raw.{with_node}
-use Rattle.btree_ext.specs.Exchange.{IsValueExchanged}
-use Rattle.btree_ext.specs.Remove.{IsInnerAt}
 use Rattle.btree_ext.proofs.ExchangeLemmas.{ExchangesAt, value-exchanged}
 use Rattle.btree_ext.proofs.InnerLemmas.{apart, node-of, other-items, well}
 use Rattle.btree_ext.proofs.RemoveInnerLemmas.{kept-is, removed-is}

@@ -1,29 +1,17 @@
 -- An update by key: at the address of a key that is there, and at the gap of one that is not.
-use Rattle.std.proofs.Common.{◌≡◌, ◌≢◌, ◌<◌, ◌∙◌, ◌^◌, ◌-◌, ℕ, inl, inr, List, [], ◌∷◌, Option, Some, None, Result, Ok, Err, IfOk, OnErr, OnOk, IfSome, IsSome, refl, sym, ap, subst, is_some, if◌then◌else◌, option_map}
-use Rattle.std.specs.Cmp.{IsTotalOrder}
+use Rattle.btree_ext.proofs.Common.{◌≡◌, ◌≢◌, ◌<◌, ◌∙◌, ◌^◌, ◌-◌, ℕ, inl, inr, List, [], ◌∷◌, Option, Some, None, Result, Ok, Err, IfSome, IsSome, refl, sym, ap, subst, is_some, if◌then◌else◌, option_map, IsTotalOrder, insert, remove, Ordering, Content, found-from_Err, before, found, found_value, Address, Node, need, TreeState, IsBTree, IsUsed, item_of, node_map, nodes_needed, pairs_of, used-view, else-none, then-some, EMPTY, with_node, IsFoundAt, IsGapAt, IsGapFor, IsRemoved, RunsAt}
+use Rattle.std.proofs.Common.{IfOk, OnErr, OnOk}
 use Rattle.std.specs.FinMap as finite
-use Rattle.std.specs.List.{insert, remove}
-use Rattle.std.specs.declared.cmp.Ordering.{Ordering}
-use Rattle.btree_store.specs.Content.{Content}
 use Rattle.btree_store.specs.ContentLaws.{remove-insert}
-use Rattle.btree_item.proofs.PairLemmas.{found-from_Err}
 use Rattle.btree_item.proofs.PairEdits.{before-from_KeyFits, found-from_KeyFits}
-use Rattle.btree_item.specs.Pairs.{before, found, found_value}
-use Rattle.btree_item.specs.Address.{Address}
-use Rattle.btree_node.specs.declared.node.Node.{Node}
-use Rattle.btree_laws.specs.Need.{need}
-use Rattle.btree_laws.specs.TreeState.{TreeState, IsBTree, IsUsed, item_of, node_map, nodes_needed, pairs_of}
-use Rattle.btree_laws.proofs.Trees.Stores.{used-view}
-use Rattle.btree_laws.proofs.Options.{else-none, then-some}
-use Rattle.btree_raw.specs.Claimed.{CanHoldMore, EMPTY}
-use Rattle.btree_raw.specs.Raw.{with_node}
-use Rattle.btree_find.specs.Answers.{IsAddressIn, IsAddressOf, IsFoundAt, IsGapAt, IsGapIn}
+use Rattle.btree_raw.specs.Claimed.{CanHoldMore}
+use Rattle.btree_find.specs.Answers.{IsAddressIn, IsAddressOf, IsGapIn}
 use Rattle.btree_find.specs.Fits.{FitsIn, pairs_below}
 use Rattle.btree_find.proofs.FitsLemmas.{occupied-item}
 use Rattle.btree_find.proofs.SearchLemmas.{gap-at}
-use Rattle.btree_ext.specs.Insert.{IsGapFor, IsGranted, IsGrantedIfAbsent}
-use Rattle.btree_ext.specs.Remove.{IsRemoved, RemovesByKey}
-use Rattle.btree_ext.specs.Update.{RunsAt, RunsAtGap, RunsByKey, UpdatesAt, UpdatesGap}
+use Rattle.btree_ext.specs.Insert.{IsGranted, IsGrantedIfAbsent}
+use Rattle.btree_ext.specs.Remove.{RemovesByKey}
+use Rattle.btree_ext.specs.Update.{RunsAtGap, RunsByKey, UpdatesAt, UpdatesGap}
 use Rattle.btree_ext.proofs.InsertLemmas.{exchanged-by_key, exchanged-pairs, put-inserted_by_key}
 use Rattle.btree_ext.proofs.LevelLemmas.{leaf-used}
 use Rattle.btree_ext.proofs.RemoveByKeyLemmas.{removed-by-key}

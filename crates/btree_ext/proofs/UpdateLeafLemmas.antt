@@ -1,23 +1,9 @@
 -- An update of a pair in a leaf: it was taken out, and is put back with another value.
-use Rattle.std.proofs.Common.{◌≡◌, ◌∙◌, ◌<◌, ◌≤◌, ◌^◌, ℕ, List, set, Option, Some, None, Ok, IsSome, IsSomeAnd, refl, sym, ap, subst, option_and_then, slice_get, arith}
-use Rattle.std.proofs.lemmas.Option.{slice_get_within}
-use Rattle.std.specs.Cmp.{IsTotalOrder}
+use Rattle.btree_ext.proofs.Common.{◌≡◌, ◌∙◌, ◌<◌, ◌≤◌, ◌^◌, ℕ, List, set, Option, Some, None, Ok, IsSome, IsSomeAnd, refl, sym, ap, subst, option_and_then, slice_get, arith, slice_get_within, IsTotalOrder, remove, Ordering, Content, get-insert_same, Address, Node, view_of, leaf, item_in, most_of, size_of, HasItems, TreeState, Changes, IsBTree, item_of, node_map, writes_node, with_node, IsValueExchanged}
 use Rattle.std.specs.FinMap as finite
-use Rattle.std.specs.List.{remove}
-use Rattle.std.specs.declared.cmp.Ordering.{Ordering}
-use Rattle.btree_store.specs.Content.{Content}
-use Rattle.btree_store.specs.ContentLaws.{get-insert_same, insert-insert}
-use Rattle.btree_item.specs.Address.{Address}
-use Rattle.btree_node.specs.declared.node.Node.{Node}
-use Rattle.btree_node.specs.Node.{view_of}
+use Rattle.btree_store.specs.ContentLaws.{insert-insert}
 use Rattle.btree_view.specs.Edits.{HasChildFor, with_item_at, without_at}
 use Rattle.btree_view.specs.Removal.{removal_in}
-use Rattle.btree_view.specs.View.{leaf, item_in, most_of, size_of}
-use Rattle.btree_laws.specs.Step.{HasItems}
-use Rattle.btree_laws.specs.TreeState.{TreeState, Changes, IsBTree, item_of, node_map}
-use Rattle.btree_laws.proofs.Trees.Stores.{writes_node}
-use Rattle.btree_raw.specs.Raw.{with_node}
-use Rattle.btree_ext.specs.Exchange.{IsValueExchanged}
 use Rattle.btree_ext.proofs.ExchangeLemmas.{ExchangesAt, value-exchanged}
 use Rattle.btree_ext.proofs.RemoveAtLemmas.{leaf-here, leaf-is, leaf-room, shorter-is}
 use Rattle.btree_ext.proofs.RemoveLemmas.{remove-shorter}

@@ -1,17 +1,11 @@
 -- Two children of one node are both leaves or both internal nodes.
-use Rattle.std.proofs.Common.{◌≡◌, ◌<◌, ◌∙◌, ℕ, zero, suc, List, Option, Some, None, refl, sym, ap, arith, option_map, slice_get}
-use Rattle.std.specs.Cmp.{IsTotalOrder}
+use Rattle.btree_find.proofs.Common.{◌≡◌, ◌<◌, ◌∙◌, ℕ, zero, suc, List, Option, Some, None, refl, sym, ap, arith, option_map, slice_get, IsTotalOrder, Ordering, Node, view_of, NodeMap, View, leaf, internal, children_in, children_of, levels_below, TreeState, IsBTree, IsUsed, node_map, pairs_of, child-places, BeginsInLeaf}
 use Rattle.std.specs.FinMap as finite
-use Rattle.std.specs.declared.cmp.Ordering.{Ordering}
-use Rattle.btree_node.specs.declared.node.Node.{Node}
-use Rattle.btree_node.specs.Node.{view_of}
-use Rattle.btree_view.specs.View.{NodeMap, View, leaf, internal, children_in, children_of}
-use Rattle.btree_laws.specs.Focus.Search.{levels_below, levels_in}
+use Rattle.btree_laws.specs.Focus.Search.{levels_in}
 use Rattle.btree_laws.specs.Place.{IsLeaf}
-use Rattle.btree_laws.specs.TreeState.{TreeState, IsBTree, IsUsed, node_map, pairs_of}
 use Rattle.btree_laws.proofs.AddressLists.LeafEnds.{first-leaf-self}
-use Rattle.btree_laws.proofs.Places.ChildPlaces.{ChildPlaces, child-places}
-use Rattle.btree_find.specs.Navigation.{AreBeside, BeginsInLeaf}
+use Rattle.btree_laws.proofs.Places.ChildPlaces.{ChildPlaces}
+use Rattle.btree_find.specs.Navigation.{AreBeside}
 use Rattle.btree_find.proofs.PlaceLemmas.{placed, root-there}
 use Rattle.btree_find.proofs.WalkLemmas.{leaf-by-none, leaf-focus, used-of}
 

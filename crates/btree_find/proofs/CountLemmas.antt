@@ -1,17 +1,11 @@
 -- How many keys a search compares, on its way down.
-use Rattle.std.proofs.Common.{◌≡◌, ◌+◌, ◌<◌, ◌∙◌, ℕ, zero, suc, Option, Some, None, Ok, Err, refl, ap, length, is_some, option_map, slice_get, if◌then◌else◌, arith}
+use Rattle.btree_find.proofs.Common.{◌≡◌, ◌+◌, ◌<◌, ◌∙◌, ℕ, zero, suc, Option, Some, None, Ok, Err, refl, ap, length, option_map, slice_get, arith, Ordering, place_of, before-from_Err, found-from_Err, Node, view_of, View, children_of, items_of, levels_below, TreeState, node_map, pairs_of, levels_from}
+use Rattle.std.proofs.Common.{is_some, if◌then◌else◌}
 use Rattle.std.specs.FinMap as nodes_map
-use Rattle.std.specs.declared.cmp.Ordering.{Ordering}
-use Rattle.btree_item.specs.Pairs.{found, place_of}
-use Rattle.btree_item.proofs.PairLemmas.{before-from_Err, found-from_Err}
-use Rattle.btree_node.specs.declared.node.Node.{Node}
-use Rattle.btree_node.specs.Node.{view_of}
+use Rattle.btree_item.specs.Pairs.{found}
 use Rattle.btree_view.specs.LookUp.{comparisons_in, look_up, offset_in}
-use Rattle.btree_view.specs.View.{View, children_of, items_of}
 use Rattle.btree_internal.proofs.LookUpLemmas.{look_up-Err, look_up-Ok}
-use Rattle.btree_laws.specs.Focus.Search.{levels_below}
-use Rattle.btree_laws.specs.TreeState.{TreeState, node_map, pairs_of}
-use Rattle.btree_find.specs.Levels.{comparisons_after, comparisons_at, comparisons_below, comparisons_from, levels_from}
+use Rattle.btree_find.specs.Levels.{comparisons_after, comparisons_at, comparisons_below, comparisons_from}
 use Rattle.btree_find.proofs.SearchLemmas.{placed-err, placed-ok}
 
 found-at : {X : Type 0} (n m p : ℕ) (o : Option X) → (if is_some o then Ok n else Err m) ≡ Ok p → (x : X) × (o ≡ Some x)

@@ -1,21 +1,12 @@
 -- The ends of a tree, from the end leaves under its root.
-use Rattle.std.proofs.Common.{◌≡◌, ◌∙◌, [], ℕ, suc, inl, inr, length, Option, Some, None, IsSome, refl, sym, ap, subst, arith, append-nil, option_map, unwrap_or}
-use Rattle.std.specs.Cmp.{IsTotalOrder}
+use Rattle.btree_find.proofs.Common.{◌≡◌, ◌∙◌, [], ℕ, suc, inl, inr, length, Option, Some, None, IsSome, refl, sym, ap, subst, arith, option_map, IsTotalOrder, Ordering, Address, View, size_of, address_at, address_before, IsEnd, IsPlace, IsSubtreeAt, HasAddresses, TreeState, IsBTree, IsLeafAddressIn, IsPlaceIn, IsUsed, IsValidIn, node_map, pairs_of, IsWellFormed, addresses-tree, place-valid, EndsInLeaf, BeginsInLeaf, IsItemBefore}
+use Rattle.std.proofs.Common.{append-nil, unwrap_or}
 use Rattle.std.specs.FinMap as finite
-use Rattle.std.specs.declared.cmp.Ordering.{Ordering}
-use Rattle.btree_item.specs.Address.{Address}
-use Rattle.btree_view.specs.View.{View, size_of}
 use Rattle.btree_laws.specs.Addresses.{last_item_in}
-use Rattle.btree_laws.specs.Focus.Positions.{address_at, address_before}
-use Rattle.btree_laws.specs.Place.{IsBack, IsEnd, IsPlace, IsSubtreeAt, NOWHERE}
-use Rattle.btree_laws.specs.TreeAddresses.{HasAddresses, first_back, first_back_under, last_front_under}
-use Rattle.btree_laws.specs.TreeState.{TreeState, IsBTree, IsLeafAddressIn, IsPlaceIn, IsUsed, IsValidIn, node_map, pairs_of}
-use Rattle.btree_laws.specs.WellFormed.{IsWellFormed}
-use Rattle.btree_laws.proofs.AddressLists.Whole.{addresses-tree}
-use Rattle.btree_laws.proofs.Trees.ValidPlaces.{place-valid, represents-node}
-use Rattle.btree_raw.specs.LastItem.{EndsInLeaf}
+use Rattle.btree_laws.specs.Place.{IsBack, NOWHERE}
+use Rattle.btree_laws.specs.TreeAddresses.{first_back, first_back_under, last_front_under}
+use Rattle.btree_laws.proofs.Trees.ValidPlaces.{represents-node}
 use Rattle.btree_find.specs.Ends.{IsFirstBack, IsFirstItem, IsLastItem, IsLastValid, IsLeafBackAt, end_of, last_end_under}
-use Rattle.btree_find.specs.Navigation.{BeginsInLeaf, IsItemBefore}
 use Rattle.btree_find.proofs.PlaceLemmas.{has-place, in-state, no-item, placed}
 use Rattle.btree_find.proofs.PreviousLemmas.{ends-before}
 use Rattle.btree_find.proofs.WalkLemmas.{begins-item, used-of}

@@ -1,17 +1,10 @@
 -- Whether a key fits, from the items around a place.
-use Rattle.std.proofs.Common.{◌≡◌, ◌<◌, ◌≤◌, ◌∙◌, ◌+◌, ℕ, zero, suc, inl, inr, List, length, length-append, ◌++◌, Option, Some, None, IfSome, IsSome, refl, sym, ap, subst, slice_get, arith}
+use Rattle.btree_find.proofs.Common.{◌≡◌, ◌<◌, ◌≤◌, ◌∙◌, ◌+◌, ℕ, zero, suc, inl, inr, List, length, length-append, ◌++◌, Option, Some, None, IsSome, refl, sym, ap, subst, slice_get, arith, IsTotalOrder, Ordering, Less, Address, NodeMap, item_in, IsOccupied, IsPlace, IsSubtreeAt, TreeState, IsBTree, IsOccupiedIn, IsPlaceIn, item_of, node_map, pairs_of, address_at, address_before, pairs_below, HasPlace, IsItemAt, IsItemBefore, IsNext, IsNormalized, IsPrevious}
+use Rattle.std.proofs.Common.{IfSome}
 use Rattle.std.proofs.lemmas.Option.{slice_get_within}
-use Rattle.std.specs.Cmp.{IsTotalOrder}
-use Rattle.std.specs.declared.cmp.Ordering.{Ordering}
-use Rattle.std.specs.declared.cmp.Ordering.TheVariants.{Less}
-use Rattle.btree_item.specs.Address.{Address}
-use Rattle.btree_view.specs.View.{NodeMap, item_in}
-use Rattle.btree_laws.specs.Place.{IsOccupied, IsPlace, IsPlaceOf, IsSubtreeAt}
-use Rattle.btree_laws.specs.TreeState.{TreeState, IsBTree, IsOccupiedIn, IsPlaceIn, item_of, node_map, pairs_of}
-use Rattle.btree_laws.specs.Focus.Positions.{address_at, address_before}
-use Rattle.btree_find.specs.Fits.{FitsAt, FitsIn, ReplacesAt, pairs_below}
+use Rattle.btree_laws.specs.Place.{IsPlaceOf}
+use Rattle.btree_find.specs.Fits.{FitsAt, FitsIn, ReplacesAt}
 use Rattle.btree_find.proofs.PlaceLemmas.{item-here}
-use Rattle.btree_find.specs.Navigation.{HasPlace, IsItemAt, IsItemBefore, IsNext, IsNormalized, IsPrevious}
 
 -- a place is at most the length of the list
 module _ {A : Type 0} (node_at : NodeMap A) (xs : List A) where

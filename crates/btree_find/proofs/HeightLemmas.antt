@@ -1,24 +1,16 @@
 -- The number of levels, counted down the first children.
-use Rattle.std.proofs.Common.{◌≡◌, refl, ℕ, zero, suc, ◌+◌, ◌-◌, ◌*◌, ◌<◌, ◌≤◌, ◌^◌, List, Option, Some, None, IsSome, sym, ap, subst, length, option_map, slice_get, arith}
+use Rattle.btree_find.proofs.Common.{◌≡◌, refl, ℕ, zero, suc, ◌+◌, ◌-◌, ◌<◌, ◌≤◌, ◌^◌, List, Option, Some, None, IsSome, sym, ap, subst, length, option_map, slice_get, arith, Node, view_of, NodeMap, leaf, internal, children_of, levels_below, TreeState, IsBTree, node_map, pairs_of, IsWellFormed, Ordering, used-one, used-view, levels_from, IsTotalOrder}
+use Rattle.std.proofs.Common.{◌*◌}
 use Rattle.std.specs.Prelude.{map as list_map}
 use Rattle.std.specs.FinMap as map
 use Rattle.btree_store.specs.Content.{Content}
-use Rattle.btree_node.specs.declared.node.Node.{Node}
-use Rattle.btree_node.specs.Node.{view_of}
-use Rattle.btree_view.specs.View.{NodeMap, leaf, internal, children_of}
 use Rattle.btree_laws.specs.Represents.{Represents}
-use Rattle.btree_laws.specs.Focus.Search.{levels_below}
-use Rattle.btree_laws.specs.TreeState.{TreeState, HasLevelsUnder, IsBTree, node_map, pairs_of, views}
-use Rattle.btree_laws.specs.WellFormed.{IsWellFormed}
+use Rattle.btree_laws.specs.TreeState.{HasLevelsUnder, views}
 use Rattle.btree_laws.proofs.Trees.Density.{height-dense, height-low}
 use Rattle.btree_laws.proofs.Trees.Represented.{height_below}
-use Rattle.std.specs.declared.cmp.Ordering.{Ordering}
-use Rattle.btree_laws.proofs.Trees.Numbers.{used-one}
-use Rattle.btree_laws.proofs.Trees.Stores.{used-view}
 use Rattle.btree_laws.proofs.Trees.ValidPlaces.{represents-node}
-use Rattle.btree_find.specs.Levels.{TicksAtMost, levels_from}
+use Rattle.btree_find.specs.Levels.{TicksAtMost}
 use Rattle.btree_find.proofs.PlaceLemmas.{some-items}
-use Rattle.std.specs.Cmp.{IsTotalOrder}
 
 -- `levels` levels are counted from the root down to node `id`
 pub record IsDescending {A : Type 0} (node_at : NodeMap A) (root : ℕ) (xs : List A) (id levels : ℕ) : Type 0 where

@@ -1,19 +1,8 @@
 -- From an address to the one in a leaf at its place.
-use Rattle.std.proofs.Common.{◌≡◌, ◌≤◌, ◌∙◌, ◌^◌, ◌-◌, ℕ, inl, inr, Option, Some, None, IsSome, refl, sym, ap, subst, option_map, slice_get}
-use Rattle.std.specs.Cmp.{IsTotalOrder}
+use Rattle.btree_find.proofs.Common.{◌≡◌, ◌≤◌, ◌∙◌, ◌^◌, ◌-◌, ℕ, inl, inr, Option, Some, None, IsSome, refl, sym, ap, subst, option_map, slice_get, IsTotalOrder, Ordering, Address, Node, view_of, children_in, children_of, size_of, address_at, address_before, IsPlace, TreeState, IsBTree, IsLeafAddressIn, IsValidIn, node_map, pairs_of, place-valid, EndsInLeaf, leaf-without, BeginsInLeaf}
 use Rattle.std.specs.FinMap as finite
-use Rattle.std.specs.declared.cmp.Ordering.{Ordering}
-use Rattle.btree_item.specs.Address.{Address}
-use Rattle.btree_node.specs.declared.node.Node.{Node}
-use Rattle.btree_node.specs.Node.{view_of}
-use Rattle.btree_view.specs.View.{children_in, children_of, size_of}
-use Rattle.btree_laws.specs.Focus.Positions.{address_at, address_before}
-use Rattle.btree_laws.specs.Place.{IsPlace, IsValid}
-use Rattle.btree_laws.specs.TreeState.{TreeState, IsBTree, IsLeafAddressIn, IsValidIn, node_map, pairs_of}
-use Rattle.btree_laws.proofs.Trees.ValidPlaces.{place-valid}
-use Rattle.btree_raw.specs.LastItem.{EndsInLeaf}
-use Rattle.btree_raw.proofs.PlacedLemmas.{leaf-without}
-use Rattle.btree_find.specs.Navigation.{BeginsInLeaf, IsLeafAddressFor}
+use Rattle.btree_laws.specs.Place.{IsValid}
+use Rattle.btree_find.specs.Navigation.{IsLeafAddressFor}
 use Rattle.btree_find.proofs.PlaceLemmas.{empty-by, has-place, place-there}
 use Rattle.btree_find.proofs.PreviousLemmas.{child-end}
 use Rattle.btree_find.proofs.WalkLemmas.{not-leaf}

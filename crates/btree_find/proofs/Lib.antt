@@ -1,3 +1,4 @@
+pub mod Common
 pub mod BesideLemmas
 pub mod ReplacesLemmas
 pub mod SearchLemmas

@@ -1,21 +1,9 @@
 -- From an address to the next item, which has the address before it.
-use Rattle.std.proofs.Common.{◌≡◌, ◌<◌, ◌≤◌, ◌∙◌, ◌+◌, ℕ, suc, length, Option, Some, None, refl, sym, ap, subst, arith, option_map, slice_get}
-use Rattle.std.proofs.lemmas.Option.{slice_get_past}
-use Rattle.std.specs.Cmp.{IsTotalOrder}
+use Rattle.btree_find.proofs.Common.{◌≡◌, ◌<◌, ◌≤◌, ◌∙◌, ◌+◌, ℕ, suc, length, Option, Some, None, refl, sym, ap, subst, arith, option_map, slice_get, slice_get_past, IsTotalOrder, IfSome, Ordering, Address, Node, view_of, NodeMap, View, leaf, children_in, children_of, items_of, item_in, size_of, address_at, address_before, IsOccupied, TreeState, IsBTree, IsOccupiedIn, IsPlaceIn, IsUsed, IsValidIn, node_map, pairs_of, child-places, leaf-without, IsItemAt, IsNext, IsPrevious, LeadsToItem}
 use Rattle.std.specs.FinMap as finite
-use Rattle.std.specs.Prelude.{IfSome}
-use Rattle.std.specs.declared.cmp.Ordering.{Ordering}
-use Rattle.btree_item.specs.Address.{Address}
-use Rattle.btree_node.specs.declared.node.Node.{Node}
-use Rattle.btree_node.specs.Node.{view_of}
-use Rattle.btree_view.specs.View.{NodeMap, View, leaf, children_in, children_of, items_of, item_in, size_of}
-use Rattle.btree_laws.specs.Focus.Positions.{address_at, address_before}
-use Rattle.btree_laws.specs.Place.{IsOccupied}
-use Rattle.btree_laws.specs.TreeState.{TreeState, IsBTree, IsOccupiedIn, IsPlaceIn, IsUsed, IsValidIn, node_map, pairs_of}
-use Rattle.btree_laws.proofs.Places.ChildPlaces.{child-places, down-from-item}
+use Rattle.btree_laws.proofs.Places.ChildPlaces.{down-from-item}
 use Rattle.btree_laws.proofs.Places.InNode.{leaf-along}
-use Rattle.btree_raw.proofs.PlacedLemmas.{leaf-without}
-use Rattle.btree_find.specs.Navigation.{IsItemAt, IsNext, IsPrevious, LeadsToItem, LeadsToNext}
+use Rattle.btree_find.specs.Navigation.{LeadsToNext}
 use Rattle.btree_find.proofs.PlaceLemmas.{empty-leads, not-empty, has-place, in-state, in-tree, item-here, place-there, placed, root-there}
 use Rattle.btree_find.proofs.WalkLemmas.{occupied-below, used-of}
 

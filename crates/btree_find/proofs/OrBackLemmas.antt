@@ -1,16 +1,8 @@
 -- From an address to the next item, or past the last one.
-use Rattle.std.proofs.Common.{◌≡◌, ◌<◌, ◌≤◌, ◌+◌, ◌⊎◌, ℕ, inl, inr, Option, Some, None, IsSome, refl, sym, ap, subst, arith, option_map}
-use Rattle.std.specs.Cmp.{IsTotalOrder}
+use Rattle.btree_find.proofs.Common.{◌≡◌, ◌<◌, ◌≤◌, ◌+◌, ℕ, inl, inr, Option, Some, None, IsSome, refl, sym, ap, subst, arith, option_map, IsTotalOrder, Ordering, Address, Node, view_of, NodeMap, item_in, size_of, address_at, address_before, IsOccupied, IsWithin, TreeState, IsBTree, IsOccupiedIn, IsValidIn, node_map, IsNext, LeadsToItem}
+use Rattle.std.proofs.Common.{◌⊎◌}
 use Rattle.std.specs.FinMap as finite
-use Rattle.std.specs.declared.cmp.Ordering.{Ordering}
-use Rattle.btree_item.specs.Address.{Address}
-use Rattle.btree_node.specs.declared.node.Node.{Node}
-use Rattle.btree_node.specs.Node.{view_of}
-use Rattle.btree_view.specs.View.{NodeMap, item_in, size_of}
-use Rattle.btree_laws.specs.Focus.Positions.{address_at, address_before}
-use Rattle.btree_laws.specs.Place.{IsOccupied, IsWithin}
-use Rattle.btree_laws.specs.TreeState.{TreeState, IsBTree, IsOccupiedIn, IsValidIn, node_map}
-use Rattle.btree_find.specs.Navigation.{IsNext, IsNextOrBack, LeadsToItem, LeadsToNext}
+use Rattle.btree_find.specs.Navigation.{IsNextOrBack, LeadsToNext}
 use Rattle.btree_find.proofs.NextLemmas.{next-at, next-before, next-empty, not-past}
 use Rattle.btree_find.proofs.PlaceLemmas.{not-empty, root-there}
 use Rattle.btree_find.proofs.WalkLemmas.{occupied-below}

@@ -1,17 +1,9 @@
 -- The parent of a node: it is used, and has the node as the child at the index that is found.
-use Rattle.std.proofs.Common.{◌≡◌, ◌==◌, ◌<◌, ◌∙◌, ℕ, Option, Some, None, IsSome, sym, ap, subst, arith, option_map, slice_get}
-use Rattle.std.specs.Cmp.{IsTotalOrder}
+use Rattle.btree_find.proofs.Common.{◌≡◌, ◌==◌, ◌<◌, ◌∙◌, ℕ, Option, Some, None, IsSome, sym, ap, subst, arith, option_map, slice_get, IsTotalOrder, position, Ordering, Node, view_of, View, children_in, children_of, parent_of, TreeState, IsBTree, IsUsed, node_map, pairs_of, used-view}
 use Rattle.std.specs.FinMap as finite
-use Rattle.std.specs.List.{position}
-use Rattle.std.specs.declared.cmp.Ordering.{Ordering}
-use Rattle.btree_node.specs.declared.node.Node.{Node}
-use Rattle.btree_node.specs.Node.{view_of}
-use Rattle.btree_view.specs.View.{View, children_in, children_of, parent_of}
-use Rattle.btree_laws.specs.TreeState.{TreeState, IsBTree, IsUsed, node_map, pairs_of}
 use Rattle.btree_laws.specs.WellFormed.{times_used}
 use Rattle.btree_laws.proofs.Paths.Parents.{get-times}
 use Rattle.btree_laws.proofs.Places.InNode.{index-in-parent}
-use Rattle.btree_laws.proofs.Trees.Stores.{used-view}
 use Rattle.btree_raw.proofs.SeparatorLemmas.{has-index, index-is}
 use Rattle.btree_find.proofs.PlaceLemmas.{placed, root-there}
 

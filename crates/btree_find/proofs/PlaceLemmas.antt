@@ -1,26 +1,14 @@
 -- The place of an address in a well formed tree, in the words of a state: one for each valid address, and the item there.
-use Rattle.std.proofs.Common.{◌≡◌, ◌<◌, ◌≤◌, ◌∙◌, ℕ, inl, inr, List, length, Option, Some, None, refl, sym, ap, subst, arith, option_map}
-use Rattle.std.proofs.lemmas.Option.{slice_get_past}
-use Rattle.std.specs.Cmp.{IsTotalOrder}
+use Rattle.btree_find.proofs.Common.{◌≡◌, ◌<◌, ◌≤◌, ◌∙◌, ℕ, inl, inr, List, length, Option, Some, None, refl, sym, ap, subst, arith, option_map, slice_get_past, IsTotalOrder, Ordering, Address, Node, view_of, NodeMap, View, item_in, size_of, IsOccupied, IsPlace, IsWithin, HasAddresses, TreeState, IsBTree, IsOccupiedIn, IsPlaceIn, IsUsed, IsValidIn, node_map, pairs_of, IsWellFormed, addresses-tree, used-one, used-view, place-valid, HasPlace, IsItemAt, IsNormalized, LeadsToItem}
 use Rattle.std.specs.FinMap as finite
-use Rattle.std.specs.declared.cmp.Ordering.{Ordering}
-use Rattle.btree_item.specs.Address.{Address}
-use Rattle.btree_node.specs.declared.node.Node.{Node}
-use Rattle.btree_node.specs.Node.{view_of}
-use Rattle.btree_view.specs.View.{NodeMap, View, item_in, size_of}
 use Rattle.btree_laws.specs.AddressLaws.{IsPlaced}
-use Rattle.btree_laws.specs.Place.{IsNowhere, IsOccupied, IsPlace, IsValid, IsWithin}
-use Rattle.btree_laws.specs.TreeAddresses.{HasAddresses, item_addresses_of}
-use Rattle.btree_laws.specs.TreeState.{TreeState, IsBTree, IsBTreeButLength, IsOccupiedIn, IsPlaceIn, IsUsed, IsValidIn, node_map, pairs_of}
-use Rattle.btree_laws.specs.WellFormed.{IsWellFormed}
-use Rattle.btree_laws.proofs.AddressLists.Whole.{addresses-tree}
+use Rattle.btree_laws.specs.Place.{IsNowhere, IsValid}
+use Rattle.btree_laws.specs.TreeAddresses.{item_addresses_of}
+use Rattle.btree_laws.specs.TreeState.{IsBTreeButLength}
 use Rattle.btree_laws.proofs.Places.HasPlace.{has_place}
 use Rattle.btree_laws.proofs.Places.OnePlace.{one_place-well}
-use Rattle.btree_laws.proofs.Trees.Numbers.{used-one}
-use Rattle.btree_laws.proofs.Trees.Stores.{most-few, used-view}
-use Rattle.btree_laws.proofs.Trees.ValidPlaces.{place-valid}
+use Rattle.btree_laws.proofs.Trees.Stores.{most-few}
 use Rattle.btree_raw.proofs.PlacedLemmas as raw
-use Rattle.btree_find.specs.Navigation.{HasPlace, IsItemAt, IsNormalized, LeadsToItem}
 
 module _ {K V : Type 0} (cmp : K → K → Ordering) (laws : IsTotalOrder cmp) (s : TreeState K V) (tree : IsBTree cmp s) where
   abbrev pub node_at : NodeMap (K × V)

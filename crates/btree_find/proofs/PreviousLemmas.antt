@@ -1,23 +1,10 @@
 -- From an address to the item before its place: down to the rightmost leaf, or up past the first children.
-use Rattle.std.proofs.Common.{◌≡◌, ◌==◌, ◌<◌, ◌≤◌, ◌∙◌, ℕ, suc, List, length, Option, Some, None, refl, sym, ap, subst, arith, option_map, slice_get}
-use Rattle.std.specs.Cmp.{IsTotalOrder}
+use Rattle.btree_find.proofs.Common.{◌≡◌, ◌==◌, ◌<◌, ◌≤◌, ◌∙◌, ℕ, suc, List, length, Option, Some, None, refl, sym, ap, subst, arith, option_map, slice_get, IsTotalOrder, position, Ordering, Address, Node, view_of, leaf, children_in, children_of, parent_of, size_of, address_at, address_before, levels_above, IsPlace, TreeState, IsBTree, IsPlaceIn, IsUsed, IsValidIn, node_map, pairs_of, child-places, EndsInLeaf, leaf-without, IsItemBefore, IsPrevious}
 use Rattle.std.specs.FinMap as finite
-use Rattle.std.specs.List.{position}
-use Rattle.std.specs.declared.cmp.Ordering.{Ordering}
-use Rattle.btree_item.specs.Address.{Address}
-use Rattle.btree_node.specs.declared.node.Node.{Node}
-use Rattle.btree_node.specs.Node.{view_of}
-use Rattle.btree_view.specs.View.{leaf, children_in, children_of, parent_of, size_of}
-use Rattle.btree_laws.specs.Focus.Positions.{address_at, address_before}
-use Rattle.btree_laws.specs.Need.{levels_above}
-use Rattle.btree_laws.specs.Place.{IsPlace}
-use Rattle.btree_laws.specs.TreeState.{TreeState, IsBTree, IsPlaceIn, IsUsed, IsValidIn, node_map, pairs_of}
-use Rattle.btree_laws.proofs.Places.ChildPlaces.{child-places, down-to-end, up-from-first, up-to-item}
+use Rattle.btree_laws.proofs.Places.ChildPlaces.{down-to-end, up-from-first, up-to-item}
 use Rattle.btree_laws.proofs.Places.InNode.{leaf-back, leaf-start, root-start}
-use Rattle.btree_raw.specs.LastItem.{EndsInLeaf}
 use Rattle.btree_raw.proofs.LastLemmas.{size_at}
-use Rattle.btree_raw.proofs.PlacedLemmas.{leaf-without}
-use Rattle.btree_find.specs.Navigation.{IsItemBefore, IsPrevious, LeadsBefore}
+use Rattle.btree_find.specs.Navigation.{LeadsBefore}
 use Rattle.btree_find.proofs.ParentLemmas.{child-there}
 use Rattle.btree_find.proofs.PlaceLemmas.{empty-place, few-items, has-place, in-state, in-tree, item-here, place-there, placed, root-there, some-items}
 use Rattle.btree_find.proofs.WalkLemmas.{leaf-focus, occupied-below, used-of}

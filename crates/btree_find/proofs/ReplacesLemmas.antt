@@ -1,12 +1,9 @@
 -- A key may replace an equal one.
-use Rattle.std.proofs.Common.{◌≡◌, ◌∙◌, ◌++◌, ◌∷◌, [], ◌<◌, ℕ, zero, suc, List, Some, Ok, length, length-append, slice_get, sym, ap, subst, arith}
+use Rattle.btree_find.proofs.Common.{◌≡◌, ◌∙◌, ◌++◌, ◌∷◌, [], ◌<◌, ℕ, zero, suc, List, Some, Ok, length, length-append, slice_get, sym, ap, subst, arith, IsTotalOrder, Ordering, Less, Ascends, place_of, rises, searched}
 use Rattle.std.proofs.lemmas.Option.{same_Some}
-use Rattle.std.specs.Cmp.{IsTotalOrder}
-use Rattle.std.specs.declared.cmp.Ordering.{Ordering}
-use Rattle.std.specs.declared.cmp.Ordering.TheVariants.{Greater, Less}
+use Rattle.std.specs.declared.cmp.Ordering.TheVariants.{Greater}
 use Rattle.btree_item.specs.KeyLaws.{cuts_of}
-use Rattle.btree_item.specs.Pairs.{Ascends, place_of}
-use Rattle.btree_laws.proofs.LookUp.KeyInList.{AreAbove, AreBelow, rises, searched}
+use Rattle.btree_laws.proofs.LookUp.KeyInList.{AreAbove, AreBelow}
 use Rattle.btree_find.specs.Fits.{KeyReplaces}
 
 module _ {K V : Type 0} (cmp : K → K → Ordering) (k : K) (laws : IsTotalOrder cmp) where

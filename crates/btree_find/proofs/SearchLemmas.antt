@@ -1,42 +1,34 @@
 -- A search in a well formed tree, step by step.
-use Rattle.std.proofs.Common.{◌≡◌, ◌≢◌, ◌+◌, ◌++◌, append_assoc, ℕ, ◌<◌, ◌≤◌, ◌^◌, ◌-◌, inl, List, Option, Some, None, inr, map, length-append, Ok, Err, IfSome, IsSome, Result, [], ◌∷◌, cond, refl, sym, ap, subst, ◌∙◌, length, option_map, option_and_then, slice_get, arith}
+use Rattle.btree_find.proofs.Common.{◌≡◌, ◌+◌, ◌++◌, ℕ, ◌<◌, ◌≤◌, ◌^◌, ◌-◌, inl, List, Option, Some, None, inr, length-append, Ok, Err, IsSome, [], ◌∷◌, refl, sym, ap, subst, ◌∙◌, length, option_map, slice_get, arith, IsTotalOrder, Less, Ordering, Ascends, place_of, before-from_Err, found-from_Err, Address, Node, view_of, View, NodeMap, leaf, internal, items_of, children_of, item_in, size_of, IsOccupied, address_before, levels_below, TreeState, IsBTree, IsLeafAddressIn, IsPlaceIn, IsUsed, IsValidIn, item_of, node_map, pairs_of, IsWellFormed, rises, searched, pairs_below, HasPlace, used-view}
+use Rattle.std.proofs.Common.{◌≢◌, append_assoc, map, IfSome, Result, cond, option_and_then}
 use Rattle.std.proofs.lemmas.List.{length-map}
-use Rattle.std.specs.Cmp.{IsTotalOrder}
 use Rattle.std.specs.FinMap as nodes_map
 use Rattle.std.specs.Ordering.{is_eq}
-use Rattle.std.specs.declared.cmp.Ordering.TheVariants.{Less, Equal, Greater}
-use Rattle.std.specs.declared.cmp.Ordering.{Ordering}
+use Rattle.std.specs.declared.cmp.Ordering.TheVariants.{Equal, Greater}
 use Rattle.btree_item.specs.Keys.{Cuts}
-use Rattle.btree_item.specs.Pairs.{Ascends, KeyFits, found, found_value, place_of}
+use Rattle.btree_item.specs.Pairs.{KeyFits, found, found_value}
 use Rattle.btree_item.proofs.PairEdits.{KeyFits-before}
-use Rattle.btree_item.proofs.PairLemmas.{before-from_Err, found-from_Err, slice_get-from_Ok}
+use Rattle.btree_item.proofs.PairLemmas.{slice_get-from_Ok}
 use Rattle.btree_item.specs.Offset.{index_offset}
-use Rattle.btree_item.specs.Address.{Address}
-use Rattle.btree_node.specs.declared.node.Node.{Node}
 use Rattle.btree_view.specs.LookUp.{placed, offset_in}
-use Rattle.btree_node.specs.Node.{view_of}
-use Rattle.btree_view.specs.View.{View, NodeMap, leaf, internal, items_of, children_of, item_in, size_of}
-use Rattle.btree_laws.specs.Place.{IsOccupied, NOWHERE}
+use Rattle.btree_laws.specs.Place.{NOWHERE}
 use Rattle.btree_laws.specs.Focus.Path.{items_after}
-use Rattle.btree_laws.specs.Focus.Positions.{address_before}
-use Rattle.btree_laws.specs.Focus.Search.{IsSearching, levels_below}
+use Rattle.btree_laws.specs.Focus.Search.{IsSearching}
 use Rattle.btree_laws.specs.Focus.Subtree.{items_under}
-use Rattle.btree_laws.specs.TreeState.{TreeState, IsBTree, IsLeafAddressIn, IsPlaceIn, IsUsed, IsValidIn, item_of, node_map, pairs_of, pairs_under}
-use Rattle.btree_laws.specs.WellFormed.{IsWellFormed}
+use Rattle.btree_laws.specs.TreeState.{pairs_under}
 use Rattle.btree_laws.proofs.LookUp.Descent.{get-after, search-ascends, search-down}
 use Rattle.btree_laws.proofs.LookUp.Ends.{search-hit, search-miss}
 use Rattle.btree_laws.proofs.Paths.Used.{focus-used}
-use Rattle.btree_laws.proofs.LookUp.KeyInList.{Rises, rises, searched}
+use Rattle.btree_laws.proofs.LookUp.KeyInList.{Rises}
 use Rattle.btree_raw.proofs.PlacedLemmas.{has-child}
 use Rattle.btree_find.specs.Answers.{IsAddressBy, IsAddressIn, IsAddressOf, IsAddressUnder, IsFoundAt, IsFoundBy, IsFoundUnder, IsGapAt, IsGapBy, IsGapUnder}
 use Rattle.btree_find.specs.Ends.{IsLeafBackAt}
-use Rattle.btree_find.specs.Fits.{pairs_below}
-use Rattle.btree_find.specs.Navigation.{HasPlace, IsItemAddress}
+use Rattle.btree_find.specs.Navigation.{IsItemAddress}
 use Rattle.btree_find.proofs.EndsLemmas.{leaf-back-at, start-place}
 use Rattle.btree_find.proofs.PlaceLemmas.{has-place, in-state, item-here}
 use Rattle.btree_find.proofs.ReplacesLemmas.{key-replaces}
 use Rattle.btree_find.proofs.UnderLemmas.{begins-here, fits-whole, place-in_whole}
-use Rattle.btree_laws.proofs.Trees.Stores.{used-view, most-few}
+use Rattle.btree_laws.proofs.Trees.Stores.{most-few}
 
 -- the key of a pair that is found is equal
 pub found-equal : {K Q V : Type 0} (cmp : K → Q → Ordering) (k : Q) (xs : List (K × V)) → IfSome (found cmp k xs) (λ x. cmp x.0 k ≡ Equal)

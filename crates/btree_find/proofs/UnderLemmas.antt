@@ -1,39 +1,26 @@
 -- The pairs under a node of a well formed tree: where they begin and end in the list.
-use Rattle.std.proofs.Common.{[], ◌∷◌, ◌++◌, append_assoc, ◌∙◌, ◌≡◌, ◌+◌, ◌<◌, ℕ, zero, suc, inl, inr, List, length, slice_get, length-append, Some, None, Ok, Err, refl, sym, ap, subst, arith, option_map}
+use Rattle.btree_find.proofs.Common.{[], ◌∷◌, ◌++◌, ◌∙◌, ◌≡◌, ◌+◌, ◌<◌, ℕ, zero, suc, inl, inr, List, length, slice_get, length-append, Some, None, Ok, Err, refl, sym, ap, subst, arith, option_map, IsTotalOrder, Ordering, Less, Ascends, place_of, before-from_Err, found-from_Err, Node, view_of, View, size_of, address_at, address_before, IsEnd, IsSubtreeAt, TreeState, IsBTree, IsPlaceIn, IsUsed, IsValidIn, node_map, pairs_of, IsWellFormed, rises, searched, used-one, place-valid, pairs_below, HasPlace}
+use Rattle.std.proofs.Common.{append_assoc}
 use Rattle.std.proofs.lemmas.Bool.Decides.{leb_tells}
-use Rattle.std.specs.Cmp.{IsTotalOrder}
 use Rattle.std.specs.FinMap as finite
-use Rattle.std.specs.declared.cmp.Ordering.{Ordering}
-use Rattle.std.specs.declared.cmp.Ordering.TheVariants.{Less}
 use Rattle.btree_item.specs.Keys.{Cuts}
-use Rattle.btree_item.specs.Pairs.{Ascends, KeyFits, place_of}
+use Rattle.btree_item.specs.Pairs.{KeyFits}
 use Rattle.btree_item.proofs.PairEdits.{KeyFits-before}
-use Rattle.btree_item.proofs.PairLemmas.{before-from_Err, found-from_Err}
-use Rattle.btree_node.specs.declared.node.Node.{Node}
-use Rattle.btree_node.specs.Node.{view_of}
-use Rattle.btree_view.specs.View.{View, size_of}
 use Rattle.btree_laws.specs.Focus.Node.{IsNode}
 use Rattle.btree_laws.specs.Focus.Path.{items_after, items_before, parent_above}
-use Rattle.btree_laws.specs.Focus.Positions.{address_at, address_before}
 use Rattle.btree_laws.specs.Focus.Search.{IsSearching}
 use Rattle.btree_laws.specs.Focus.Subtree.{items_under}
-use Rattle.btree_laws.specs.Place.{IsEnd, IsSubtreeAt}
 use Rattle.btree_laws.specs.Represents.{Represents}
-use Rattle.btree_laws.specs.TreeState.{TreeState, IsBTree, IsPlaceIn, IsUsed, IsValidIn, node_map, pairs_of}
-use Rattle.btree_laws.specs.WellFormed.{IsWellFormed}
 use Rattle.btree_laws.proofs.LookUp.Descent.{search-start}
-use Rattle.btree_laws.proofs.LookUp.KeyInList.{Rises, ascends, equal-back, equal-front, place-hit, rises, rises-left, rises-right, searched}
+use Rattle.btree_laws.proofs.LookUp.KeyInList.{Rises, ascends, equal-back, equal-front, place-hit, rises-left, rises-right}
 use Rattle.btree_laws.proofs.Paths.FromRoot.{node-at}
 use Rattle.btree_laws.proofs.Paths.Levels.{levels-rooted}
 use Rattle.btree_laws.proofs.Paths.UnsizedFocus.{focus-unsized}
-use Rattle.btree_laws.proofs.Trees.Numbers.{used-one}
 use Rattle.btree_laws.proofs.Trees.Represented.{represented-is}
 use Rattle.btree_laws.proofs.Trees.States.{height_held}
 use Rattle.btree_laws.proofs.Trees.Subtrees.{represents-of}
-use Rattle.btree_laws.proofs.Trees.ValidPlaces.{place-valid}
 use Rattle.btree_laws.proofs.Options.{some-of}
-use Rattle.btree_find.specs.Fits.{FitsIn, pairs_below}
-use Rattle.btree_find.specs.Navigation.{HasPlace}
+use Rattle.btree_find.specs.Fits.{FitsIn}
 use Rattle.btree_find.proofs.PlaceLemmas.{has-place, in-state, root-there}
 
 -- a key among some pairs of an ascending list has its place in the whole list

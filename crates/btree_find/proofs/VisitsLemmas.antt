@@ -1,31 +1,18 @@
 -- One step of a visit of the back or of the front addresses, by the laws of their lists.
-use Rattle.std.proofs.Common.{◌≡◌, ◌<◌, ◌≤◌, ◌∙◌, ◌+◌, ℕ, zero, suc, inl, length, Option, Some, None, IfSome, IsSome, refl, sym, ap, subst, arith, option_map, slice_get}
-use Rattle.std.proofs.lemmas.Option.{slice_get_past}
-use Rattle.std.specs.Cmp.{IsTotalOrder}
+use Rattle.btree_find.proofs.Common.{◌≡◌, ◌<◌, ◌≤◌, ◌∙◌, ◌+◌, ℕ, zero, suc, inl, length, Option, Some, None, IsSome, refl, sym, ap, subst, arith, option_map, slice_get, slice_get_past, IsTotalOrder, Ordering, Address, Node, view_of, View, children_in, children_of, leaf, parent_of, size_of, address_at, address_before, IsEnd, IsWithin, HasAddresses, TreeState, IsBTree, IsValidIn, node_map, pairs_of, IsWellFormed, addresses-tree, EndsInLeaf, leaf-without, BeginsInLeaf}
+use Rattle.std.proofs.Common.{IfSome}
 use Rattle.std.specs.FinMap as finite
-use Rattle.std.specs.declared.cmp.Ordering.{Ordering}
-use Rattle.btree_item.specs.Address.{Address}
-use Rattle.btree_node.specs.declared.node.Node.{Node}
-use Rattle.btree_node.specs.Node.{view_of}
-use Rattle.btree_view.specs.View.{View, children_in, children_of, leaf, parent_of, size_of}
 use Rattle.btree_laws.specs.AddressLaws.{IsFront}
 use Rattle.btree_laws.specs.Addresses.{backs_under, fronts_under, last_item, last_item_in, last_leaf, slot_before}
-use Rattle.btree_laws.specs.Focus.Positions.{address_at, address_before}
-use Rattle.btree_laws.specs.Place.{IsBack, IsEnd, IsWithin}
-use Rattle.btree_laws.specs.TreeAddresses.{HasAddresses, backs_of, fronts_of}
-use Rattle.btree_laws.specs.TreeState.{TreeState, IsBTree, IsValidIn, node_map, pairs_of}
+use Rattle.btree_laws.specs.Place.{IsBack}
+use Rattle.btree_laws.specs.TreeAddresses.{backs_of, fronts_of}
 use Rattle.btree_laws.specs.Visits.{ComesBefore, VisitsBacks, VisitsFronts, prior}
-use Rattle.btree_laws.specs.WellFormed.{IsWellFormed}
 use Rattle.btree_laws.proofs.AddressLists.BackVisits.{backs-visited}
 use Rattle.btree_laws.proofs.AddressLists.FrontAddresses.{front-within}
 use Rattle.btree_laws.proofs.AddressLists.FrontVisits.{fronts-visited}
 use Rattle.btree_laws.proofs.AddressLists.LeafEnds.{last-leaf-down, last-leaf-self}
 use Rattle.btree_laws.proofs.AddressLists.Next.{came-before}
-use Rattle.btree_laws.proofs.AddressLists.Whole.{addresses-tree}
-use Rattle.btree_raw.specs.LastItem.{EndsInLeaf}
 use Rattle.btree_raw.proofs.LastLemmas.{internal-last}
-use Rattle.btree_raw.proofs.PlacedLemmas.{leaf-without}
-use Rattle.btree_find.specs.Navigation.{BeginsInLeaf}
 use Rattle.btree_find.specs.Visits.{IsNextBack, IsPreviousFront}
 use Rattle.btree_find.proofs.PlaceLemmas.{empty-by, few-items, placed, root-there}
 use Rattle.btree_find.proofs.WalkLemmas.{leaf-focus}

@@ -1,28 +1,15 @@
 -- The walks of navigation, step by step: down to an end leaf, and up to an item.
-use Rattle.std.proofs.Common.{◌≡◌, ◌≢◌, ◌==◌, ◌<◌, ◌≤◌, ◌∙◌, ◌^◌, ◌-◌, ℕ, inl, inr, List, length, Option, Some, None, refl, sym, ap, subst, arith, option_map, slice_get}
+use Rattle.btree_find.proofs.Common.{◌≡◌, ◌==◌, ◌<◌, ◌≤◌, ◌∙◌, ◌^◌, ◌-◌, ℕ, inl, inr, List, length, Option, Some, None, refl, sym, ap, subst, arith, option_map, slice_get, IsTotalOrder, position, Ordering, Address, Node, view_of, NodeMap, View, leaf, internal, children_in, children_of, items_of, item_in, parent_of, size_of, address_at, address_before, levels_below, levels_above, IsOccupied, TreeState, IsBTree, IsPlaceIn, IsUsed, node_map, pairs_of, child-places, used-one, used-view, BeginsInLeaf, IsItemAt, LeadsToItem}
+use Rattle.std.proofs.Common.{◌≢◌}
 use Rattle.std.proofs.lemmas.List.{length-map}
-use Rattle.std.specs.Cmp.{IsTotalOrder}
 use Rattle.std.specs.FinMap as finite
-use Rattle.std.specs.List.{position}
-use Rattle.std.specs.declared.cmp.Ordering.{Ordering}
 use Rattle.btree_item.specs.Offset.{index_offset}
-use Rattle.btree_item.specs.Address.{Address}
-use Rattle.btree_node.specs.declared.node.Node.{Node}
-use Rattle.btree_node.specs.Node.{view_of}
-use Rattle.btree_view.specs.View.{NodeMap, View, leaf, internal, children_in, children_of, items_of, item_in, parent_of, size_of}
 use Rattle.btree_laws.specs.Addresses.{first_leaf}
-use Rattle.btree_laws.specs.Focus.Positions.{address_at, address_before}
-use Rattle.btree_laws.specs.Focus.Search.{levels_below}
-use Rattle.btree_laws.specs.Need.{levels_above}
-use Rattle.btree_laws.specs.Place.{IsLeaf, IsOccupied}
-use Rattle.btree_laws.specs.TreeState.{TreeState, IsBTree, IsPlaceIn, IsUsed, node_map, pairs_of}
+use Rattle.btree_laws.specs.Place.{IsLeaf}
 use Rattle.btree_laws.proofs.AddressLists.LeafEnds.{first-leaf-down, first-leaf-self}
-use Rattle.btree_laws.proofs.Places.ChildPlaces.{child-places, up-from-end, down-to-first}
+use Rattle.btree_laws.proofs.Places.ChildPlaces.{up-from-end, down-to-first}
 use Rattle.btree_laws.proofs.Places.HasPlace.{low_or_end}
 use Rattle.btree_laws.proofs.Places.InNode.{leaf-first, root-end}
-use Rattle.btree_laws.proofs.Trees.Numbers.{used-one}
-use Rattle.btree_laws.proofs.Trees.Stores.{used-view}
-use Rattle.btree_find.specs.Navigation.{BeginsInLeaf, IsItemAt, LeadsToItem}
 use Rattle.btree_find.proofs.ParentLemmas.{child-there}
 use Rattle.btree_find.proofs.PlaceLemmas.{in-state, in-tree, item-here, no-item, placed, root-there, some-items}
 

@@ -1,22 +1,18 @@
 -- The branches of an internal node as pairs, items and children.
-use Rattle.std.proofs.Common.{◌≡◌, ℕ, ◌+◌, ◌-◌, ◌<◌, List, [], ◌∷◌, Option, Some, Ok, Ordering, set, map, zero, suc, refl, sym, ◌∙◌, ap, arith, length, take, drop, ◌++◌}
-use Rattle.std.proofs.lemmas.List.{length-map}
-use Rattle.std.specs.Prelude.{slice_get}
+use Rattle.btree_internal.proofs.Common.{◌≡◌, ℕ, ◌+◌, ◌-◌, ◌<◌, List, [], ◌∷◌, Option, Some, Ok, Ordering, map, zero, suc, refl, sym, ◌∙◌, ap, arith, length, drop, ◌++◌, length-map, slice_get, place_of, internal_with_value_at, map-append, option_map, Branch, Internal, branch_pair, internal_view, internal, items_of, children_of}
+use Rattle.std.proofs.Common.{set, take}
 use Rattle.std.specs.Cmp.{IsTotalOrder}
 use Rattle.std.specs.List.{insert, remove, zip}
-use Rattle.btree_item.specs.Pairs.{Ascends, place_of}
+use Rattle.btree_item.specs.Pairs.{Ascends}
 use Rattle.btree_item.specs.KeyLaws.{cuts_of}
 use Rattle.btree_item.proofs.PairLemmas.{set-from_Ok}
-use Rattle.btree_internal.specs.InternalLends.{internal_with_item_at, internal_with_value, internal_with_value_at, with_value_read}
+use Rattle.btree_internal.specs.InternalLends.{internal_with_item_at, internal_with_value, with_value_read}
 use Rattle.std.specs.Map.{keys_of}
-use Rattle.std.proofs.lemmas.List.{take-map, drop-map, map-append}
-use Rattle.std.specs.Option.{option_and_then, option_map}
+use Rattle.std.proofs.lemmas.List.{take-map, drop-map}
+use Rattle.std.specs.Option.{option_and_then}
 use Rattle.std.proofs.lemmas.Option.{slice_get-map}
-use Rattle.btree_internal.specs.declared.internal.Branch.{Branch}
-use Rattle.btree_internal.specs.Internal.{Internal, branch_pair}
-use Rattle.btree_internal.specs.Internal.{internal_view}
 use Rattle.btree_view.specs.Edits.{with_item_at, with_other_item, without}
-use Rattle.btree_view.specs.View.{internal, items_of, children_of, size_of}
+use Rattle.btree_view.specs.View.{size_of}
 use Rattle.btree_view.proofs.Cuts.{last_out}
 
 pub map_insert : {A B : Type 0} (f : A → B) (xs : List A) (i : ℕ) (x : A) → map f (insert xs i x) ≡ insert (map f xs) i (f x)

@@ -1,10 +1,8 @@
 -- A node's parent as it is stored, and branches that are appended.
-use Rattle.std.proofs.Common.{◌≡◌, ℕ, ◌-◌, ◌^◌, List, [], ◌∷◌, ◌++◌, Option, Some, None, map, ◌∙◌, ap}
-use Rattle.std.proofs.lemmas.List.{length-map, map-append}
+use Rattle.btree_internal.proofs.Common.{◌≡◌, ℕ, ◌-◌, List, [], ◌∷◌, ◌++◌, Option, Some, None, map, ◌∙◌, ap, length-map, map-append, Branch, branch_pair}
+use Rattle.std.proofs.Common.{◌^◌}
 use Rattle.std.specs.Prelude.{length, unwrap_or}
 use Rattle.btree_item.specs.declared.item.Item.{Item}
-use Rattle.btree_internal.specs.declared.internal.Branch.{Branch}
-use Rattle.btree_internal.specs.Internal.{branch_pair}
 use Rattle.btree_view.specs.Kept.{kept_parent, node_of}
 use Rattle.btree_view.proofs.Cuts.{joined_behind}
 

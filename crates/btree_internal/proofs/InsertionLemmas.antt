@@ -1,14 +1,10 @@
 -- A value written at the place of its key is an insertion by key.
-use Rattle.std.proofs.Common.{◌≡◌, ℕ, Option, Some, None, Ok, Ordering, refl, sym, ◌∙◌, ap}
-use Rattle.std.specs.Prelude.{slice_get}
+use Rattle.btree_internal.proofs.Common.{◌≡◌, ℕ, Option, Some, None, Ok, Ordering, refl, sym, ◌∙◌, ap, slice_get, option_map, place_of, Internal, internal_view, internal_with_value_at, items_of}
 use Rattle.std.specs.Cmp.{IsTotalOrder}
-use Rattle.std.specs.Option.{option_map}
-use Rattle.btree_item.specs.Pairs.{Ascends, found, place_of}
-use Rattle.btree_internal.specs.Internal.{Internal, internal_view}
-use Rattle.btree_internal.specs.InternalLends.{internal_with_value, internal_with_value_at}
+use Rattle.btree_item.specs.Pairs.{Ascends, found}
+use Rattle.btree_internal.specs.InternalLends.{internal_with_value}
 use Rattle.btree_internal.proofs.BranchLemmas.{with_value-from_at}
 use Rattle.btree_view.specs.Insertion.{with_inserted}
-use Rattle.btree_view.specs.View.{items_of}
 
 module _ {K V : Type 0} (cmp : K → K → Ordering) (total : IsTotalOrder cmp) (node : Internal K V) (k : K) (i : ℕ) where
   found-inserted : (x : K × V) (w : V) → found cmp k (items_of (internal_view node)) ≡ Some x → internal_view (internal_with_value cmp k node w) ≡ with_inserted cmp k w (internal_view node)

@@ -2,7 +2,8 @@
 use denote.Param.{layout, number, param}
 use denote.RattleType.{RattleType}
 use prog.Memory.{size}
-use Rattle.std.proofs.Common.{◌<◌, ◌^◌, arith}
+use Rattle.btree_internal.proofs.Common.{◌<◌, arith}
+use Rattle.std.proofs.Common.{◌^◌}
 use Rattle.btree_item.specs.contracts.slots.Slots.{the_row as slots_row}
 use Rattle.btree_internal.specs.contracts.internal.Branch.{the_row as branch_row}
 use Rattle.btree_internal.specs.contracts.internal.InternalNode.{the_row as internal_row}

@@ -1,10 +1,6 @@
 -- The parts of an internal node that is split.
-use Rattle.std.proofs.Common.{◌≡◌, ℕ, List, ◌∷◌, ◌++◌, Option, length, map, sym, ◌∙◌, ap}
-use Rattle.std.proofs.lemmas.List.{length-map, map-append}
+use Rattle.btree_internal.proofs.Common.{◌≡◌, ℕ, List, ◌∷◌, ◌++◌, Option, length, map, sym, ◌∙◌, ap, length-map, map-append, internal, Branch, Internal, branch_pair, internal_view}
 use Rattle.btree_view.specs.Edits.{IsSplit}
-use Rattle.btree_view.specs.View.{internal}
-use Rattle.btree_internal.specs.declared.internal.Branch.{Branch}
-use Rattle.btree_internal.specs.Internal.{Internal, branch_pair, internal_view}
 use Rattle.btree_internal.proofs.BranchLemmas.{branches_are}
 
 module _ {K V : Type 0} where

@@ -1,3 +1,4 @@
+pub mod Common
 pub mod BranchLemmas
 pub mod LookUpLemmas
 pub mod InternalSplit

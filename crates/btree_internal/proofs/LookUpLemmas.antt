@@ -1,15 +1,14 @@
 -- What a look-up in an internal node returns, by what is found and by the place of the key or of a child.
-use Rattle.std.proofs.Common.{◌≡◌, ℕ, ◌+◌, ◌<◌, ◌≤◌, List, [], ◌∷◌, Bool, true, false, Option, Some, None, Ok, Err, drop, length, zero, suc, refl, sym, ◌∙◌, ap, arith, inl, inr, Ordering}
-use Rattle.std.specs.Prelude.{slice_get, ◌==◌}
+use Rattle.btree_internal.proofs.Common.{◌≡◌, ℕ, ◌+◌, ◌<◌, List, [], ◌∷◌, Option, Some, None, Ok, drop, length, zero, suc, refl, sym, ◌∙◌, ap, arith, inl, Ordering, slice_get, ◌==◌, option_map, items_of, children_of}
+use Rattle.std.proofs.Common.{◌≤◌, Bool, true, false, Err, inr}
 use Rattle.std.specs.List.{position, position_from}
-use Rattle.std.specs.Option.{option_map}
 use Rattle.std.proofs.lemmas.Bool.Decides.{eqb_tells}
 use Rattle.std.proofs.lemmas.Iterator.Adapters.{position_from-zero}
 use Rattle.std.proofs.lemmas.List.{drop_all}
 use Rattle.std.proofs.lemmas.Option.{slice_get_cases}
 use Rattle.btree_item.specs.Pairs.{before, found}
 use Rattle.btree_view.specs.LookUp.{look_up}
-use Rattle.btree_view.specs.View.{View, items_of, children_of}
+use Rattle.btree_view.specs.View.{View}
 
 module _ {K Q V : Type 0} (cmp : K → Q → Ordering) (k : Q) (node : View (K × V)) where
   -- a look-up in a node ends at an item with the key

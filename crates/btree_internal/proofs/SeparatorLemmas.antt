@@ -1,10 +1,6 @@
 -- The keys next to a child, by the branches that hold them.
-use Rattle.std.proofs.Common.{◌≡◌, ℕ, ◌-◌, ◌<◌, List, Option, Some, None, map, zero, suc, refl, sym, ◌∙◌, ap, arith}
-use Rattle.std.specs.Prelude.{slice_get}
-use Rattle.std.specs.Option.{option_map}
+use Rattle.btree_internal.proofs.Common.{◌≡◌, ℕ, ◌-◌, ◌<◌, List, Option, Some, None, map, zero, suc, refl, sym, ◌∙◌, ap, arith, slice_get, option_map, Branch, Internal, branch_pair, internal_view}
 use Rattle.std.proofs.lemmas.Option.{slice_get-map}
-use Rattle.btree_internal.specs.declared.internal.Branch.{Branch}
-use Rattle.btree_internal.specs.Internal.{Internal, branch_pair, internal_view}
 use Rattle.btree_internal.proofs.BranchLemmas.{items_are}
 use Rattle.btree_view.specs.Separators.{separator_after, separator_before}
 

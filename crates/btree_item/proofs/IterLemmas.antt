@@ -1,10 +1,10 @@
 -- A step of the iterator over slots, from either end.
-use Rattle.std.proofs.Common.{◌≡◌, ◌<◌, List, [], ◌∷◌, ◌++◌, Option, Some, None, length, map, refl, sym, ◌∙◌, ap, arith}
+use Rattle.btree_item.proofs.Common.{◌≡◌, ◌<◌, List, [], ◌∷◌, ◌++◌, Option, Some, None, length, map, refl, sym, ◌∙◌, ap, arith, somes}
 use Rattle.std.specs.Borrow.{Bor}
 use Rattle.std.specs.Iterator.{YieldsFirstRef, YieldsLastRef, MakesProgress, item_count}
 use Rattle.std.proofs.lemmas.List.{length-append}
 use Rattle.std.specs.Option.{option_copied}
-use Rattle.btree_item.specs.Somes.{somes, AreSome}
+use Rattle.btree_item.specs.Somes.{AreSome}
 use Rattle.btree_item.proofs.SomesLemmas.{somes_from_map, AreSome-from_map, length-somes}
 
 module _ {T : Type 0} where

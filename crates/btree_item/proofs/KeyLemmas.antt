@@ -1,16 +1,15 @@
 -- Where a key is, or would be, in a list of keys that ascend.
-use Rattle.std.proofs.Common.{◌≡◌, ℕ, ◌+◌, ◌<◌, ◌≤◌, inl, inr, Bool, true, false, cond, List, [], ◌∷◌, Option, Some, Ok, Err, length, zero, suc, refl, sym, ◌∙◌, ap, arith, subst, Ordering}
-use Rattle.std.specs.declared.cmp.Ordering.TheVariants.{Less, Equal, Greater}
-use Rattle.std.specs.Prelude.{slice_get, ◌||◌}
-use Rattle.std.specs.Ordering.{is_eq, is_lt, is_some_and, partial_lt}
+use Rattle.btree_item.proofs.Common.{◌≡◌, ℕ, ◌+◌, ◌<◌, ◌≤◌, Bool, true, false, cond, List, [], ◌∷◌, Option, Some, Ok, Err, length, zero, suc, refl, sym, ◌∙◌, ap, arith, subst, Ordering, Less, Equal, Greater, slice_get, is_eq, is_lt, is_some_and, slice_get_within, sorted_tail, count_below, has_key, AllBelow}
+use Rattle.std.proofs.Common.{inl, inr}
+use Rattle.std.specs.Prelude.{◌||◌}
+use Rattle.std.specs.Ordering.{partial_lt}
 use Rattle.std.specs.Cmp.{Agrees}
 use Rattle.std.specs.List.{AllByRecursion, count_by, list_any}
 use Rattle.std.specs.List.Sorted.{IsStrictlySortedBy}
 use Rattle.std.proofs.lemmas.Bool.{cases_lt}
-use Rattle.std.proofs.lemmas.Option.{slice_get_within}
-use Rattle.std.proofs.lemmas.Map.Keys.{sorted_head, sorted_tail}
+use Rattle.std.proofs.lemmas.Map.Keys.{sorted_head}
 use Rattle.std.proofs.lemmas.List.Sums.{sum_by-cons}
-use Rattle.btree_item.specs.Keys.{Cuts, count_below, has_key, key_place, AllBelow, IsNotBelowAt, IsFirstNotBelow}
+use Rattle.btree_item.specs.Keys.{Cuts, key_place, IsNotBelowAt, IsFirstNotBelow}
 
 -- the ordering that `is_lt` is true of is `Less`
 pub Less-from_is_lt : (c : Ordering) → is_lt c ≡ true → c ≡ Less

@@ -1,3 +1,4 @@
+pub mod Common
 pub mod SomesLemmas
 pub mod StoreLemmas
 pub mod IterLemmas

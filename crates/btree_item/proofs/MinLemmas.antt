@@ -1,12 +1,9 @@
 -- The last key that is at most a given one, in a list of keys that do not descend.
-use Rattle.std.proofs.Common.{◌≡◌, ℕ, ◌+◌, ◌<◌, ◌≤◌, true, false, List, Some, length, suc, refl, sym, ◌∙◌, ap, arith, Ordering}
-use Rattle.std.specs.declared.cmp.Ordering.TheVariants.{Less, Equal, Greater}
-use Rattle.std.specs.Prelude.{slice_get}
-use Rattle.std.specs.Ordering.{is_lt, is_le, ordering_reverse}
-use Rattle.std.specs.Cmp.{IsTotalOrder}
+use Rattle.btree_item.proofs.Common.{◌≡◌, ℕ, ◌+◌, ◌<◌, ◌≤◌, true, false, List, Some, length, suc, refl, sym, ◌∙◌, ap, arith, Ordering, Less, Equal, Greater, slice_get, is_lt, IsTotalOrder, slice_get_within}
+use Rattle.std.specs.Ordering.{is_le, ordering_reverse}
 use Rattle.std.specs.List.Sorted.{IsSorted}
 use Rattle.std.proofs.lemmas.List.Sorted.{ranks_by, sorted_far}
-use Rattle.std.proofs.lemmas.Option.{get_or_from_slice_get, slice_get_within}
+use Rattle.std.proofs.lemmas.Option.{get_or_from_slice_get}
 use Rattle.btree_item.specs.Keys.{AllAbove, IsAtMostBefore, IsLastAtMost}
 
 is_le-from_not_below : (c d : Ordering) → is_lt c ≡ false → d ≡ ordering_reverse c → is_le d ≡ true

@@ -1,20 +1,17 @@
 -- What an edit of a list of pairs leaves: the order of the keys, the length, and that a pair inserted is removed again.
-use Rattle.std.proofs.Common.{◌≡◌, ℕ, ◌+◌, ◌<◌, ◌≤◌, Bool, true, false, cond, List, [], ◌∷◌, Option, Some, None, length, zero, suc, refl, sym, ◌∙◌, ap, subst, arith, Ordering}
-use Rattle.std.specs.declared.cmp.Ordering.TheVariants.{Less, Equal, Greater}
-use Rattle.std.specs.Prelude.{IsSome, is_some, slice_get}
-use Rattle.std.specs.List.{AllByRecursion, insert, remove}
+use Rattle.btree_item.proofs.Common.{◌≡◌, ℕ, ◌+◌, ◌<◌, ◌≤◌, Bool, true, false, cond, List, [], ◌∷◌, Option, Some, None, length, zero, suc, refl, sym, ◌∙◌, ap, subst, arith, Ordering, Less, Equal, Greater, IsSome, slice_get, insert, remove, is_eq, is_lt, IsTotalOrder, length-map, sorted_tail, count_below, has_key, AllBelow}
+use Rattle.std.specs.Prelude.{is_some}
+use Rattle.std.specs.List.{AllByRecursion}
 use Rattle.std.specs.List.Sorted.{IsStrictlySortedBy}
 use Rattle.std.specs.Map.{keys_of}
 use Rattle.std.specs.Option.{option_map}
-use Rattle.std.specs.Ordering.{is_eq, is_lt, ordering_reverse}
-use Rattle.std.specs.Cmp.{IsTotalOrder}
-use Rattle.std.proofs.lemmas.List.{length-map}
+use Rattle.std.specs.Ordering.{ordering_reverse}
 use Rattle.std.proofs.lemmas.List.Edits.{length-insert}
 use Rattle.std.proofs.lemmas.List.Sums.{count_by-le-length}
 use Rattle.std.proofs.lemmas.Map.{keys-set_value, length-set_value}
-use Rattle.std.proofs.lemmas.Map.Keys.{sorted_head, sorted_tail}
+use Rattle.std.proofs.lemmas.Map.Keys.{sorted_head}
 use Rattle.std.proofs.lemmas.Option.{slice_get-map}
-use Rattle.btree_item.specs.Keys.{count_below, has_key, AllBelow, IsFirstNotBelow}
+use Rattle.btree_item.specs.Keys.{IsFirstNotBelow}
 use Rattle.btree_item.specs.Pairs.{Ascends, KeyFits, before, found, with_value, inserted}
 use Rattle.btree_item.specs.KeyLaws.{cuts_of}
 use Rattle.btree_item.proofs.KeyLemmas.{AllBelow-none, AllBelow-from_key, IsFirstNotBelow-count, count_below-first, has_key-gap, has_key-here}

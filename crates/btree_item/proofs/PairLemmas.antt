@@ -1,13 +1,9 @@
 -- Where a key is, or would be, in a list of pairs whose keys ascend.
-use Rattle.std.proofs.Common.{◌≡◌, ℕ, ◌+◌, Bool, true, false, cond, List, [], ◌∷◌, Option, Some, None, Ok, Err, Result, set, suc, refl, sym, ◌∙◌, ap, arith, Ordering}
-use Rattle.std.specs.declared.cmp.Ordering.TheVariants.{Less, Equal, Greater}
-use Rattle.std.specs.Prelude.{IfOk, OnErr, is_some, slice_get}
-use Rattle.std.specs.List.{insert}
+use Rattle.btree_item.proofs.Common.{◌≡◌, ℕ, ◌+◌, Bool, true, false, cond, List, [], ◌∷◌, Option, Some, None, Ok, Err, set, suc, refl, sym, ◌∙◌, ap, arith, Ordering, Less, Equal, Greater, slice_get, insert, is_eq, is_lt, IsTotalOrder, sorted_tail, count_below, has_key}
+use Rattle.std.proofs.Common.{Result}
+use Rattle.std.specs.Prelude.{IfOk, OnErr, is_some}
 use Rattle.std.specs.Map.{keys_of}
-use Rattle.std.specs.Ordering.{is_eq, is_lt}
-use Rattle.std.specs.Cmp.{IsTotalOrder}
-use Rattle.std.proofs.lemmas.Map.Keys.{sorted_tail}
-use Rattle.btree_item.specs.Keys.{Cuts, count_below, has_key, key_place}
+use Rattle.btree_item.specs.Keys.{Cuts, key_place}
 use Rattle.btree_item.specs.Pairs.{Ascends, before, found, place_of, with_value, inserted}
 use Rattle.btree_item.specs.KeyLaws.{cuts_of}
 use Rattle.btree_item.proofs.KeyLemmas.{count_by-cons, count_below-later, has_key-later}

@@ -1,12 +1,10 @@
 -- What an edit of a list of options leaves of the values, if every option holds one.
-use Rattle.std.proofs.Common.{◌≡◌, ℕ, ◌+◌, ◌<◌, ◌≤◌, List, [], ◌∷◌, ◌++◌, Option, Some, map, length, take, drop, set, get_or, zero, suc, refl, sym, ◌∙◌, ap, arith}
-use Rattle.std.specs.Prelude.{slice_get, IsSome}
-use Rattle.std.specs.List.{insert, remove}
+use Rattle.btree_item.proofs.Common.{◌≡◌, ℕ, ◌+◌, ◌<◌, ◌≤◌, List, [], ◌∷◌, ◌++◌, Option, Some, map, length, take, drop, set, get_or, zero, suc, refl, sym, ◌∙◌, ap, arith, slice_get, IsSome, insert, remove, length-map, somes}
 use Rattle.std.specs.Option.{option_map}
-use Rattle.std.proofs.lemmas.List.{take-map, drop-map, map-append, length-map, length-take-le, map-set, set-get_or, take_more_set}
+use Rattle.std.proofs.lemmas.List.{take-map, drop-map, map-append, length-take-le, map-set, set-get_or, take_more_set}
 use Rattle.std.proofs.Math.Seq.{take-set-lt}
 use Rattle.std.proofs.lemmas.Option.{slice_get-map}
-use Rattle.btree_item.specs.Somes.{somes, AreSome}
+use Rattle.btree_item.specs.Somes.{AreSome}
 
 module _ {T : Type 0} where
   pub somes-map : (xs : List T) → somes (map Some xs) ≡ xs

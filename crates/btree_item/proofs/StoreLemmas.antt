@@ -1,8 +1,6 @@
 -- Stores into a list, of which the first elements are in use.
-use Rattle.std.proofs.Common.{◌≡◌, ℕ, ◌+◌, ◌<◌, ◌≤◌, List, [], ◌∷◌, ◌++◌, Some, length, take, drop, set, get_or, zero, suc, refl, sym, ◌∙◌, ap, arith}
+use Rattle.btree_item.proofs.Common.{◌≡◌, ℕ, ◌+◌, ◌<◌, ◌≤◌, List, [], ◌∷◌, ◌++◌, Some, length, take, drop, set, get_or, zero, suc, refl, sym, ◌∙◌, ap, arith, slice_get, insert, refill, remove}
 use Rattle.std.proofs.lemmas.List.{length-set, length-take-le, take-set, take-set-le, take_more_set, append_assoc}
-use Rattle.std.specs.Prelude.{slice_get}
-use Rattle.std.specs.List.{insert, refill, remove}
 use Rattle.btree_item.proofs.PairEdits.{remove-insert, slice_get-insert}
 
 module _ {X : Type 0} where

@@ -1,3 +1,4 @@
+pub mod Common
 pub mod Options
 pub mod Trees
 pub mod Paths

@@ -1,6 +1,6 @@
 -- What a test of an option says, and which of two values it chooses.
-use Rattle.std.proofs.Common.{◌≡◌, Option, Some, None, refl}
-use Rattle.std.specs.Prelude.{IsSome, if◌then◌else◌, is_some}
+use Rattle.btree_laws.proofs.Common.{◌≡◌, Option, Some, None, refl, is_some}
+use Rattle.std.specs.Prelude.{IsSome, if◌then◌else◌}
 
 -- an option with a value is not empty
 pub some-none : {X : Type 0} (o : Option X) → IsSome o → o ≡ None → ⊥

@@ -1,5 +1,6 @@
 -- A leaf after an item of it is written or inserted.
-use Rattle.std.proofs.Common.{◌≡◌, ℕ, List, Option, Some, Ok, Err, Result, sym, ◌∙◌, ap, set, subst, Ordering}
+use Rattle.btree_leaf.proofs.Common.{◌≡◌, Some, sym, ◌∙◌, ap, Leaf}
+use Rattle.std.proofs.Common.{ℕ, List, Option, Ok, Err, Result, set, subst, Ordering}
 use Rattle.std.specs.Prelude.{slice_get}
 use Rattle.std.specs.List.{insert}
 use Rattle.std.specs.Cmp.{IsTotalOrder}
@@ -7,7 +8,6 @@ use Rattle.btree_item.specs.Pairs.{Ascends, found, found_value, place_of, with_v
 use Rattle.btree_item.specs.KeyLaws.{cuts_of}
 use Rattle.btree_item.proofs.PairLemmas.{set-from_Ok, inserted-from_Ok, inserted-from_Err}
 use Rattle.btree_item.proofs.PairEdits.{Ascends-inserted}
-use Rattle.btree_leaf.specs.Leaf.{Leaf}
 use Rattle.btree_leaf.specs.LeafLends.{leaf_with_item_at}
 
 module _ {K V : Type 0} (cmp : K → K → Ordering) (leaf : Leaf K V) (parent : Option ℕ) (items : List (K × V)) (is : record { parent = parent; items = items } ≡ leaf) (k : K) (i : ℕ) where

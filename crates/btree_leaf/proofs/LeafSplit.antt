@@ -1,8 +1,7 @@
 -- The parts of a leaf that is split.
-use Rattle.std.proofs.Common.{◌≡◌, ℕ, List, ◌∷◌, ◌++◌, Option, length, sym, ◌∙◌, ap}
+use Rattle.btree_leaf.proofs.Common.{◌≡◌, ◌++◌, length, sym, ◌∙◌, ap, leaf, Leaf, leaf_view}
+use Rattle.std.proofs.Common.{ℕ, List, ◌∷◌, Option}
 use Rattle.btree_view.specs.Edits.{IsSplit}
-use Rattle.btree_view.specs.View.{leaf}
-use Rattle.btree_leaf.specs.Leaf.{Leaf, leaf_view}
 
 module _ {K V : Type 0} where
   pub IsSplit-leaf : (node : Leaf K V) (parent : Option ℕ) (items : List (K × V)) → record { parent = parent; items = items } ≡ node → (rest tail : List (K × V)) (x : K × V) → items ≡ rest ++ x ∷ tail → length rest ≡ 4 → IsSplit (leaf_view node) x (leaf parent rest) (leaf parent tail)

@@ -1,3 +1,4 @@
+pub mod Common
 pub mod LeafLemmas
 pub mod LeafSplit
 pub mod Crossing

@@ -1,18 +1,12 @@
 -- Insertions at the end of a map.
-use Rattle.std.proofs.Common.{◌≡◌, ◌≤◌, ◌∙◌, Option, true, Bool, ◌↔◌, ◌==◌, ◌-◌, List, Some, None, IsSome, refl, sym, ap, subst, arith, length, slice_get}
+use Rattle.btree_map.proofs.Common.{◌≡◌, ◌≤◌, ◌∙◌, Option, true, Bool, ◌-◌, List, Some, None, IsSome, refl, sym, ap, subst, arith, length, slice_get, same_Some, slice_get_within, IsTotalOrder, Ordering, Equal, Greater, Less, Ascends, KeyFits, before, found, inserted, Address, TreeState, item_of, pairs_of, IsLastPair}
+use Rattle.std.proofs.Common.{◌↔◌, ◌==◌}
 use Rattle.std.proofs.lemmas.List.Edits.{length-insert}
-use Rattle.std.proofs.lemmas.Option.{same_Some, slice_get_within}
-use Rattle.std.specs.Cmp.{IsTotalOrder}
 use Rattle.std.specs.Ordering.{ordering_index}
-use Rattle.std.specs.declared.cmp.Ordering.{Ordering}
-use Rattle.std.specs.declared.cmp.Ordering.TheVariants.{Equal, Greater, Less}
-use Rattle.btree_item.specs.Pairs.{Ascends, KeyFits, before, found, inserted}
 use Rattle.btree_item.proofs.PairEdits.{before-from_KeyFits, found-from_KeyFits, slice_get-insert}
-use Rattle.btree_item.specs.Address.{Address}
-use Rattle.btree_laws.specs.TreeState.{TreeState, item_of, pairs_of}
 use Rattle.btree_laws.proofs.Options.{else-none}
 use Rattle.btree_ext.specs.InsertAbsent.{InsertsAbsent}
-use Rattle.btree_map.specs.Ascending.{GoesLast, IsAboveLast, IsLastPair}
+use Rattle.btree_map.specs.Ascending.{GoesLast, IsAboveLast}
 use Rattle.btree_map.proofs.EntryLemmas.{item-valid}
 
 module _ {K V : Type 0} (cmp : K → K → Ordering) (laws : IsTotalOrder cmp) (k : K) (s : TreeState K V) (up : Ascends cmp (pairs_of s))

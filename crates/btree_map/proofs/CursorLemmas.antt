@@ -1,19 +1,8 @@
 -- A step of a cursor: the address after or before that of an item, and the value written at it.
-use Rattle.std.proofs.Common.{◌≡◌, ◌∙◌, ℕ, zero, suc, ◌+◌, ◌-◌, ◌<◌, ◌≤◌, List, [], ◌∷◌, Option, Some, None, length, sym, ap, set, slice_get, subst, arith}
-use Rattle.std.proofs.lemmas.Option.{same_Some}
-use Rattle.std.specs.Cmp.{IsTotalOrder}
-use Rattle.std.specs.declared.cmp.Ordering.{Ordering}
-use Rattle.btree_item.specs.Address.{Address}
-use Rattle.btree_laws.specs.TreeAddresses.{item_addresses_of}
-use Rattle.btree_laws.specs.TreeState.{TreeState, IsBTree, IsOccupiedIn, IsPlaceIn, IsValidIn, item_of, pairs_of}
-use Rattle.btree_laws.specs.Visits.{prior}
-use Rattle.btree_laws.proofs.AddressLists.Whole.{addresses-tree}
-use Rattle.btree_find.specs.Navigation.{IsItemBefore, IsNext, IsPrevious}
-use Rattle.btree_find.proofs.FitsLemmas.{occupied-item}
+use Rattle.btree_map.proofs.Common.{◌≡◌, ◌∙◌, ℕ, zero, suc, ◌+◌, ◌-◌, ◌<◌, ◌≤◌, List, [], ◌∷◌, Option, Some, None, length, sym, ap, set, slice_get, subst, arith, same_Some, IsTotalOrder, Ordering, Address, item_addresses_of, TreeState, IsBTree, IsValidIn, item_of, pairs_of, prior, addresses-tree, IsNext, occupied-item, value_written, WritesPlace, or_nowhere, written-addresses}
+use Rattle.btree_laws.specs.TreeState.{IsOccupiedIn, IsPlaceIn}
+use Rattle.btree_find.specs.Navigation.{IsItemBefore, IsPrevious}
 use Rattle.btree_ext.specs.Exchange.{IsValueExchanged}
-use Rattle.btree_ext.specs.ValueWritten.{value_written}
-use Rattle.btree_map.specs.Cursor.{WritesPlace, or_nowhere}
-use Rattle.btree_map.specs.WrittenAddresses.{written-addresses}
 use Rattle.btree_map.proofs.EntryLemmas.{item-valid}
 
 pub get_none : {X : Type 0} (list : List X) (n : ℕ) → slice_get list n ≡ None → length list ≤ n

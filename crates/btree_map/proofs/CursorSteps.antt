@@ -1,13 +1,12 @@
 -- What is left of a cursor after a step.
 use Rattle.std.proofs.Common.{map as each}
-use Rattle.std.proofs.Common.{◌≡◌, ◌∙◌, ◌+◌, ◌-◌, ◌<◌, ◌∷◌, ◌++◌, [], List, Some, take, drop, slice_get, sym, ap}
+use Rattle.btree_map.proofs.Common.{◌≡◌, ◌∙◌, ◌+◌, ◌-◌, ◌<◌, ◌∷◌, ◌++◌, [], List, Some, take, drop, slice_get, sym, ap, pairs_of, WritesPlace, or_nowhere}
 use Rattle.std.specs.declared.cmp.Ord as ord
 use Rattle.std.specs.declared.cmp.PartialEq as eq
 use Rattle.std.specs.declared.cmp.PartialOrd as partial
 use Rattle.btree_node.specs.declared.node_stores.Nodes as nodes
 use Rattle.btree_node.specs.declared.node_stores.NodesMut as nodes_mut
-use Rattle.btree_laws.specs.TreeState.{pairs_of}
-use Rattle.btree_map.specs.Cursor.{WritesFirst, WritesLast, WritesFirstValue, WritesPlace, back_written, first_written, front_written, or_nowhere, values_left}
+use Rattle.btree_map.specs.Cursor.{WritesFirst, WritesLast, WritesFirstValue, back_written, first_written, front_written, values_left}
 use Rattle.btree_map.specs.declared.cursor.IterMut.{IterMut}
 use Rattle.btree_map.specs.declared.cursor.ValuesMut.{ValuesMut}
 use Rattle.btree_map.proofs.SpanLemmas.{span-first, span-last}

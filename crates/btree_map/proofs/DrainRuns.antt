@@ -1,5 +1,6 @@
 -- Runs of a test over the pairs that a cursor has left, call by call.
-use Rattle.std.proofs.Common.{◌≡◌, ◌∙◌, ℕ, zero, suc, ◌+◌, ◌<◌, Bool, true, false, not, List, [], ◌∷◌, ◌++◌, Some, length, ◌≤◌, slice_get, refl, sym, ap, subst, arith, drop, take, append_assoc, append-nil}
+use Rattle.btree_map.proofs.Common.{◌≡◌, ◌∙◌, ℕ, zero, suc, ◌+◌, ◌<◌, Bool, true, false, not, List, [], ◌∷◌, ◌++◌, Some, length, ◌≤◌, slice_get, refl, sym, ap, subst, arith, drop, take, append_assoc, item_addresses_of, TreeState, pairs_of, Ends, entry_front, left_of, passed_of, EntriesMut}
+use Rattle.std.proofs.Common.{append-nil}
 use mathlib.Core.Bool.{beq}
 use Rattle.std.specs.Map.Calls.{CallableOnEachPair}
 use Rattle.std.specs.declared.cmp.Ord as ord
@@ -7,11 +8,8 @@ use Rattle.std.specs.declared.cmp.PartialEq as eq
 use Rattle.std.specs.declared.cmp.PartialOrd as partial
 use Rattle.btree_node.specs.declared.node_stores.Nodes as nodes
 use Rattle.btree_node.specs.declared.node_stores.NodesMut as nodes_mut
-use Rattle.btree_laws.specs.TreeAddresses.{item_addresses_of}
-use Rattle.btree_laws.specs.TreeState.{TreeState, pairs_of}
-use Rattle.btree_map.specs.Drain.{Asks, AsksFirst, Ends, KeepsAddresses, RunsOut, RunsTest, Selects, if_same, picked}
-use Rattle.btree_map.specs.Editing.{PassesEntry, RemovesEntry, entry_front, left_of, passed_of}
-use Rattle.btree_map.specs.declared.cursor.editing.EntriesMut.{EntriesMut}
+use Rattle.btree_map.specs.Drain.{Asks, AsksFirst, KeepsAddresses, RunsOut, RunsTest, Selects, if_same, picked}
+use Rattle.btree_map.specs.Editing.{PassesEntry, RemovesEntry}
 
 pub same-answer : (a b : Bool) → beq a b ≡ true → a ≡ b
 same-answer true true e = refl

@@ -1,22 +1,14 @@
 -- The place of an editing cursor: the item there, an address for an insertion there, and the address of the next item
 -- after each edit.
-use Rattle.std.proofs.Common.{◌≡◌, ◌↔◌, ◌∙◌, ℕ, suc, ◌+◌, ◌<◌, ◌≤◌, Bool, true, false, not, List, [], ◌∷◌, ◌++◌, Option, Some, None, IsSome, is_none, is_some, length, length-drop, take, drop, refl, sym, ap, slice_get, subst, arith}
+use Rattle.btree_map.proofs.Common.{◌≡◌, ◌∙◌, ℕ, suc, ◌+◌, ◌<◌, ◌≤◌, Bool, true, false, not, List, [], ◌∷◌, ◌++◌, Option, Some, None, IsSome, length, length-drop, take, drop, refl, sym, ap, slice_get, subst, arith, slice_get_within, IsTotalOrder, insert, remove, Ordering, KeyFits, Address, item_addresses_of, IsBTree, IsValidIn, TreeState, item_of, node_map, pairs_of, addresses-tree, IsNext, item-occupied, occupied-item}
+use Rattle.std.proofs.Common.{◌↔◌, is_none, is_some}
 use Rattle.std.proofs.lemmas.List.{drop_all}
-use Rattle.std.proofs.lemmas.Option.{slice_get_within}
-use Rattle.std.specs.Cmp.{IsTotalOrder}
-use Rattle.std.specs.List.{insert, remove}
-use Rattle.std.specs.declared.cmp.Ordering.{Ordering}
-use Rattle.btree_item.specs.Pairs.{KeyFits}
-use Rattle.btree_item.specs.Address.{Address}
 use Rattle.btree_laws.specs.Place.{IsOccupied}
-use Rattle.btree_laws.specs.TreeAddresses.{item_addresses_of}
-use Rattle.btree_laws.specs.TreeState.{IsBTree, IsOccupiedIn, IsValidIn, TreeState, item_of, node_map, pairs_of}
-use Rattle.btree_laws.proofs.AddressLists.Whole.{addresses-tree}
+use Rattle.btree_laws.specs.TreeState.{IsOccupiedIn}
 use Rattle.btree_laws.proofs.Options.{some-none}
 use Rattle.btree_find.specs.Ends.{IsLastValid}
 use Rattle.btree_find.specs.Fits.{FitsAt}
-use Rattle.btree_find.specs.Navigation.{HasPlace, IsNext, IsNormalized}
-use Rattle.btree_find.proofs.FitsLemmas.{item-occupied, occupied-item}
+use Rattle.btree_find.specs.Navigation.{HasPlace, IsNormalized}
 use Rattle.btree_find.proofs.PlaceLemmas.{has-place, only}
 use Rattle.btree_ext.specs.InsertAt.{InsertsAt}
 use Rattle.btree_ext.specs.Remove.{IsRemoved}

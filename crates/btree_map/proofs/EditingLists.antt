@@ -1,10 +1,6 @@
 -- A list cut at a place: its first element after the place, and both parts after an edit there.
-use Rattle.std.proofs.Common.{◌≡◌, ◌∙◌, ℕ, zero, suc, ◌+◌, ◌-◌, ◌<◌, ◌≤◌, List, [], ◌∷◌, ◌++◌, Some, length, take, drop, set, slice_get, refl, sym, ap, subst, arith}
+use Rattle.btree_map.proofs.Common.{◌≡◌, ◌∙◌, ℕ, zero, suc, ◌+◌, ◌-◌, ◌<◌, ◌≤◌, List, [], ◌∷◌, ◌++◌, Some, length, take, drop, set, slice_get, refl, sym, ap, subst, arith, same_Some, insert, remove, Ordering, KeyFits}
 use Rattle.std.proofs.lemmas.List.{length-take-le}
-use Rattle.std.proofs.lemmas.Option.{same_Some}
-use Rattle.std.specs.List.{insert, remove}
-use Rattle.std.specs.declared.cmp.Ordering.{Ordering}
-use Rattle.btree_item.specs.Pairs.{KeyFits}
 use Rattle.btree_map.specs.Editing.{FitsBetween}
 
 module _ {X : Type 0} where

@@ -1,18 +1,11 @@
 -- What an editing cursor has passed, and what is left, once a value that it lent was written.
-use Rattle.std.proofs.Common.{◌≡◌, ◌∙◌, ◌+◌, ◌<◌, ◌∷◌, Option, Some, length, take, drop, set, slice_get, refl, sym, ap, arith}
+use Rattle.btree_map.proofs.Common.{◌≡◌, ◌∙◌, ◌+◌, ◌<◌, ◌∷◌, Option, Some, length, take, drop, set, slice_get, refl, sym, ap, arith, Address, item_addresses_of, pairs_of, WritesPlace, or_nowhere, entry_front, index_of, item_index, written-addresses, EntriesMut}
 use Rattle.std.specs.declared.cmp.Ord as ord
 use Rattle.std.specs.declared.cmp.PartialEq as eq
 use Rattle.std.specs.declared.cmp.PartialOrd as partial
-use Rattle.btree_item.specs.Address.{Address}
 use Rattle.btree_node.specs.declared.node_stores.Nodes as nodes
 use Rattle.btree_node.specs.declared.node_stores.NodesMut as nodes_mut
-use Rattle.btree_laws.specs.TreeAddresses.{item_addresses_of}
-use Rattle.btree_laws.specs.TreeState.{pairs_of}
-use Rattle.btree_map.specs.Cursor.{WritesPlace, or_nowhere}
-use Rattle.btree_map.specs.Editing.{WritesPassed, WritesPeeked, entry_front, entry_written, next_of, past_first, with_first}
-use Rattle.btree_map.specs.Spans.{index_of, item_index}
-use Rattle.btree_map.specs.WrittenAddresses.{written-addresses}
-use Rattle.btree_map.specs.declared.cursor.editing.EntriesMut.{EntriesMut}
+use Rattle.btree_map.specs.Editing.{WritesPassed, WritesPeeked, entry_written, next_of, past_first, with_first}
 use Rattle.btree_map.proofs.IndexLemmas.{IsOnce, index-is}
 use Rattle.btree_map.proofs.EditingLists.{set-drop, set-drop-more, set-take, set-take-more}
 

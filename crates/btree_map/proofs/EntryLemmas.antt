@@ -1,15 +1,9 @@
 -- What a search by key returned, as an entry keeps it.
-use Rattle.std.proofs.Common.{◌≡◌, ◌∙◌, ℕ, Option, Some, None, IsSome, refl, sym, ap, inl}
-use Rattle.std.specs.Cmp.{IsTotalOrder}
-use Rattle.std.specs.declared.cmp.Ordering.{Ordering}
-use Rattle.btree_item.specs.Pairs.{inserted}
-use Rattle.btree_item.specs.Address.{Address}
+use Rattle.btree_map.proofs.Common.{◌≡◌, ◌∙◌, ℕ, Option, Some, None, IsSome, refl, sym, ap, inl, IsTotalOrder, Ordering, inserted, Address, TreeState, IsValidIn, item_of, node_map, pairs_of, item-occupied, occupied-item}
 use Rattle.btree_laws.specs.Place.{IsOccupied, IsWithin}
-use Rattle.btree_laws.specs.TreeState.{TreeState, IsValidIn, item_of, node_map, pairs_of}
 use Rattle.btree_laws.proofs.Places.Words.{item-within}
 use Rattle.btree_laws.proofs.Options.{some-none}
 use Rattle.btree_find.specs.Answers.{IsFoundAt}
-use Rattle.btree_find.proofs.FitsLemmas.{item-occupied, occupied-item}
 use Rattle.btree_map.specs.Written.{list_written, with_value_of}
 use Rattle.btree_map.proofs.ListLemmas.{inserted-present}
 

@@ -1,13 +1,9 @@
 -- Insertions of many pairs.
-use Rattle.std.proofs.Common.{◌≡◌, ◌∙◌, ◌+◌, ◌++◌, List, [], ◌∷◌, cond, Some, None, length, slice_get, refl, sym, ap, subst, arith, Ordering}
-use Rattle.std.specs.List.{AllByRecursion, insert, remove}
+use Rattle.btree_map.proofs.Common.{◌≡◌, ◌∙◌, ◌+◌, ◌++◌, List, [], ◌∷◌, cond, Some, None, length, slice_get, refl, sym, ap, subst, arith, AllByRecursion, insert, remove, is_lt, Less, Ascends, before, found, inserted, inserted_all}
+use Rattle.std.proofs.Common.{Ordering}
 use Rattle.std.specs.Map.{keys_of}
-use Rattle.std.specs.Ordering.{is_lt}
-use Rattle.std.specs.declared.cmp.Ordering.TheVariants.{Less}
 use Rattle.std.proofs.lemmas.Map.Keys.{sorted_head, sorted_tail}
-use Rattle.btree_item.specs.Pairs.{Ascends, before, found, inserted}
 use Rattle.btree_item.proofs.KeyLemmas.{count_by-cons}
-use Rattle.btree_map.specs.Extension.{inserted_all}
 
 module _ {K V : Type 0} where
   -- the first pair, and the others

@@ -1,15 +1,13 @@
 -- The indices of the ends of a cursor over a range, in a list of addresses.
-use Rattle.std.proofs.Common.{◌≡◌, ◌∙◌, ℕ, zero, suc, ◌+◌, ◌-◌, ◌<◌, ◌≤◌, Bool, true, false, not, nat_eq, ◌&&◌, List, Option, Some, None, length, nat_lt, slice_get, refl, sym, ap, arith, ◌⊎◌, inl, inr}
-use Rattle.std.proofs.lemmas.Bool.{cases_Bool, cases_eq, le-ltb, lt-ltb, ltb-false, ltb-true}
+use Rattle.btree_map.proofs.Common.{◌≡◌, ◌∙◌, ℕ, zero, suc, ◌+◌, ◌-◌, ◌<◌, ◌≤◌, Bool, true, false, not, ◌&&◌, List, Option, Some, None, length, nat_lt, slice_get, refl, sym, ap, arith, inl, inr, cases_Bool, ltb-false, ltb-true, same_Some, slice_get_within, Address, prior, index_after, index_of}
+use Rattle.std.proofs.Common.{nat_eq, ◌⊎◌}
+use Rattle.std.proofs.lemmas.Bool.{cases_eq, le-ltb, lt-ltb}
 use Rattle.std.proofs.lemmas.Bool.Decides.{eqb_tells}
-use Rattle.std.proofs.lemmas.Option.{same_Some, slice_get_within}
 use Rattle.std.specs.Option.{option_eq}
 use Rattle.btree_item.specs.Offset.{kept_number}
 use Rattle.btree_item.specs.contracts.address.AddressPartialEq.TheImpl as derived
-use Rattle.btree_item.specs.Address.{Address}
-use Rattle.btree_laws.specs.Visits.{prior}
 use Rattle.btree_map.specs.SpanLaws.{at-own, same-address, same-itself}
-use Rattle.btree_map.specs.Spans.{index_after, index_of, is_same}
+use Rattle.btree_map.specs.Spans.{is_same}
 use Rattle.btree_map.proofs.CursorLemmas.{get_none}
 
 -- each address is in the list once

@@ -1,12 +1,6 @@
 -- The count of the pairs that an editing cursor has passed, if it is known: it is the place of the cursor after each step.
-use Rattle.std.proofs.Common.{◌≡◌, ◌∙◌, ℕ, ◌+◌, ◌<◌, IfSome, Option, Some, None, arith, refl, subst, sym, ap}
-use Rattle.std.proofs.lemmas.Option.{same_Some}
+use Rattle.btree_map.proofs.Common.{◌≡◌, ◌∙◌, ℕ, ◌+◌, ◌<◌, IfSome, Option, Some, None, arith, refl, subst, sym, ap, same_Some, Address, TreeState, value_written, index_of, item_index, written-addresses}
 use Rattle.std.specs.Option.{ForSome, option_map}
-use Rattle.btree_item.specs.Address.{Address}
-use Rattle.btree_laws.specs.TreeState.{TreeState}
-use Rattle.btree_ext.specs.ValueWritten.{value_written}
-use Rattle.btree_map.specs.Spans.{index_of, item_index}
-use Rattle.btree_map.specs.WrittenAddresses.{written-addresses}
 
 -- the count, if it is known, is the place
 abbrev pub IsPlace : Option ℕ → ℕ → Type 0

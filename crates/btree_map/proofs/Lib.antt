@@ -1,3 +1,4 @@
+pub mod Common
 pub mod EntryLemmas
 pub mod ListLemmas
 pub mod RemovalLemmas

@@ -1,13 +1,10 @@
 -- A list of pairs with another value at a key: at its place, at an equal key, twice, and at a key that was inserted.
-use Rattle.std.proofs.Common.{◌≡◌, ◌∙◌, ◌∷◌, [], ◌≤◌, ℕ, zero, suc, Bool, true, false, cond, List, Some, length, set, slice_get, refl, sym, ap, arith}
+use Rattle.btree_map.proofs.Common.{◌≡◌, ◌∙◌, ◌∷◌, [], ◌≤◌, ℕ, zero, suc, Bool, true, false, cond, List, Some, length, set, slice_get, refl, sym, ap, arith, IsTotalOrder, tied_itself, AllByRecursion, insert, Ordering, Less, Equal, Ascends, found, inserted}
 use Rattle.std.proofs.lemmas.Map.Keys.{sorted_head, sorted_tail}
-use Rattle.std.specs.Cmp.{IsTotalOrder, Equal-is, alike_right, tied_itself}
-use Rattle.std.specs.List.{AllByRecursion, insert}
+use Rattle.std.specs.Cmp.{Equal-is, alike_right}
 use Rattle.std.specs.Map.{keys_of, lookup_entry, set_value}
 use Rattle.std.specs.Ordering.{is_eq}
-use Rattle.std.specs.declared.cmp.Ordering.{Ordering}
-use Rattle.std.specs.declared.cmp.Ordering.TheVariants.{Less, Equal}
-use Rattle.btree_item.specs.Pairs.{Ascends, found, inserted, with_value}
+use Rattle.btree_item.specs.Pairs.{with_value}
 use Rattle.btree_laws.proofs.Options.{then-some}
 
 pub set-inserted : {X : Type 0} (xs : List X) (n : ℕ) (x y : X) → n ≤ length xs → set (insert xs n x) n y ≡ insert xs n y

@@ -1,17 +1,10 @@
 -- A rising list without the pairs between two bounds.
-use Rattle.std.proofs.Common.{◌≡◌, ◌∙◌, suc, ◌+◌, Bool, true, false, not, ◌&&◌, List, [], ◌∷◌, ◌++◌, length, length-append, arith, slice_get, Option, Some, None, IfSome, IfNone, refl, sym, ap, subst, append_assoc}
-use Rattle.std.proofs.lemmas.Option.{same_Some}
+use Rattle.btree_map.proofs.Common.{◌≡◌, ◌∙◌, suc, ◌+◌, Bool, true, false, not, ◌&&◌, List, [], ◌∷◌, ◌++◌, length, length-append, arith, slice_get, Option, Some, None, IfSome, refl, sym, ap, subst, append_assoc, same_Some, entries_between, is_from_start, is_past_end, range_contains, IsTotalOrder, AllByRecursion, filter, Ordering, Less, Bound, Unbounded, Rises, all-so, filter-earlier}
+use Rattle.std.proofs.Common.{IfNone}
 use Rattle.std.proofs.lemmas.List.Elements.{filter-append}
-use Rattle.std.specs.BTreeMap.Range.{entries_between, is_from_start, is_past_end, range_contains}
-use Rattle.std.specs.Cmp.{IsTotalOrder}
-use Rattle.std.specs.List.{AllByRecursion, filter}
-use Rattle.std.specs.declared.cmp.Ordering.{Ordering}
-use Rattle.std.specs.declared.cmp.Ordering.TheVariants.{Less}
-use Rattle.std.specs.declared.ops.Bound.{Bound}
-use Rattle.std.specs.declared.ops.Bound.TheVariants.{Unbounded}
-use Rattle.btree_laws.proofs.LookUp.KeyInList.{Rises, rises-right}
+use Rattle.btree_laws.proofs.LookUp.KeyInList.{rises-right}
 use Rattle.btree_laws.proofs.Paths.Frames.{AllByRecursion-left}
-use Rattle.btree_walk.proofs.BoundLemmas.{all-so, filter-all, filter-none, filter-earlier, from-start, past-on, start-cut}
+use Rattle.btree_walk.proofs.BoundLemmas.{filter-all, filter-none, from-start, past-on, start-cut}
 use Rattle.btree_map.specs.Removal.{pairs_outside}
 
 module _ {A : Type 0} where

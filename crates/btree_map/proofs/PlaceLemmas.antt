@@ -1,22 +1,14 @@
 -- How many pairs are before the start bound of a range, and how many are up to its end bound.
-use Rattle.std.proofs.Common.{◌≡◌, ◌∙◌, ℕ, zero, suc, ◌+◌, ◌-◌, ◌<◌, Bool, true, false, not, cond, List, [], ◌∷◌, ◌++◌, Result, Ok, Err, if◌then◌else◌, length, take, drop, length-append, slice_get, nat_lt, is_some, inl, inr, Option, Some, None, refl, sym, ap, arith}
-use Rattle.std.proofs.lemmas.Bool.{cases_Bool, cases_eq, cond-false, cond-true, le-ltb, lt-ltb, ltb-false, ltb-true}
-use Rattle.std.proofs.lemmas.Option.{same_Some}
+use Rattle.btree_map.proofs.Common.{◌≡◌, ◌∙◌, ℕ, zero, suc, ◌+◌, ◌-◌, ◌<◌, Bool, true, false, not, cond, List, [], ◌∷◌, ◌++◌, length, take, drop, length-append, slice_get, nat_lt, inl, inr, Option, Some, None, refl, sym, ap, arith, cases_Bool, ltb-false, ltb-true, same_Some, entries_between, is_from_start, range_contains, IsTotalOrder, tied_itself, AllByRecursion, filter, is_le, is_lt, Ordering, Equal, Greater, Less, Bound, Included, Excluded, Unbounded, before, found, Rises, all-so, filter-earlier, from_place, to_place}
+use Rattle.std.proofs.Common.{Result, Ok, Err, if◌then◌else◌, is_some}
+use Rattle.std.proofs.lemmas.Bool.{cases_eq, cond-false, cond-true, le-ltb, lt-ltb}
 use Rattle.std.proofs.lemmas.List.{drop_at, take_at}
 use Rattle.std.proofs.lemmas.List.Sums.{length-filter, sum_by-cons}
-use Rattle.std.specs.BTreeMap.Range.{entries_between, is_from_start, range_contains}
-use Rattle.std.specs.Cmp.{IsTotalOrder, tied_itself}
-use Rattle.std.specs.List.{AllByRecursion, count_by, filter}
-use Rattle.std.specs.Ordering.{is_eq, is_le, is_lt, ordering_reverse}
-use Rattle.std.specs.declared.cmp.Ordering.{Ordering}
-use Rattle.std.specs.declared.cmp.Ordering.TheVariants.{Equal, Greater, Less}
-use Rattle.std.specs.declared.ops.Bound.{Bound}
-use Rattle.std.specs.declared.ops.Bound.TheVariants.{Included, Excluded, Unbounded}
-use Rattle.btree_item.specs.Pairs.{before, found, place_of}
+use Rattle.std.specs.List.{count_by}
+use Rattle.std.specs.Ordering.{is_eq, ordering_reverse}
+use Rattle.btree_item.specs.Pairs.{place_of}
 use Rattle.btree_item.proofs.PairLemmas.{before-from_Ok}
-use Rattle.btree_laws.proofs.LookUp.KeyInList.{Rises}
-use Rattle.btree_walk.proofs.BoundLemmas.{all-so, between-take, filter-earlier, from-start, start-cut}
-use Rattle.btree_map.specs.Spans.{from_place, to_place}
+use Rattle.btree_walk.proofs.BoundLemmas.{between-take, from-start, start-cut}
 
 module _ {X : Type 0} where
   count-cons : (p : X → Bool) (x : X) (xs : List X) → count_by p (x ∷ xs) ≡ cond (p x) 1 0 + count_by p xs

@@ -1,18 +1,9 @@
 -- The pairs between two queries, as those between two keys of the list.
-use Rattle.std.proofs.Common.{◌≡◌, ◌∙◌, ℕ, zero, suc, ◌+◌, ◌≤◌, Bool, true, false, not, cond, ◌&&◌, List, [], ◌∷◌, Some, None, slice_get, refl, sym, ap, subst, arith}
+use Rattle.btree_map.proofs.Common.{◌≡◌, ◌∙◌, ℕ, zero, suc, ◌+◌, ◌≤◌, Bool, true, false, not, cond, ◌&&◌, List, [], ◌∷◌, Some, None, slice_get, refl, sym, ap, subst, arith, same_Some, entries_between, is_from_start, is_past_end, range_contains, IsTotalOrder, tied_itself, AllByRecursion, filter, is_gt, is_le, is_lt, Ordering, Equal, Greater, Less, Included, Excluded, Unbounded, before, Rises, prior}
 use Rattle.std.proofs.lemmas.List.Sums.{sum_by-cons}
-use Rattle.std.proofs.lemmas.Option.{same_Some}
-use Rattle.std.specs.BTreeMap.Range.{entries_between, is_from_start, is_past_end, range_contains}
-use Rattle.std.specs.Cmp.{IsTotalOrder, tied_itself}
-use Rattle.std.specs.List.{AllByRecursion, filter}
-use Rattle.std.specs.Ordering.{is_gt, is_le, is_lt, ordering_reverse}
-use Rattle.std.specs.declared.cmp.Ordering.{Ordering}
-use Rattle.std.specs.declared.cmp.Ordering.TheVariants.{Equal, Greater, Less}
-use Rattle.std.specs.declared.ops.Bound.TheVariants.{Included, Excluded, Unbounded}
+use Rattle.std.specs.Ordering.{ordering_reverse}
 use Rattle.btree_item.specs.Keys.{Cuts}
-use Rattle.btree_item.specs.Pairs.{before}
-use Rattle.btree_laws.proofs.LookUp.KeyInList.{Rises, reversed, reversed-back}
-use Rattle.btree_laws.specs.Visits.{prior}
+use Rattle.btree_laws.proofs.LookUp.KeyInList.{reversed, reversed-back}
 use Rattle.btree_map.specs.Queries.{pairs_from_to}
 
 module _ {A : Type 0} where

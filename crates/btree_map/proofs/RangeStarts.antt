@@ -1,25 +1,13 @@
 -- Where a cursor starts that has bounds: the addresses of its ends, and the pairs from and up to them.
-use Rattle.std.proofs.Common.{◌≡◌, ◌∙◌, suc, ◌-◌, List, Option, Some, drop, length, nat_lt, not, slice_get, sym, take, ap, arith}
+use Rattle.btree_map.proofs.Common.{◌≡◌, ◌∙◌, suc, ◌-◌, List, Option, Some, drop, length, nat_lt, not, slice_get, sym, take, ap, arith, entries_between, is_from_start, is_past_end, IsTotalOrder, is_le, Ordering, Bound, Included, Excluded, Unbounded, Address, addresses-tree, Rises, rises, item_addresses_of, TreeState, IsBTree, item_of, node_map, pairs_of, prior, IsNext, from_place, index_after, index_of, to_place}
 use Rattle.std.proofs.lemmas.List.Sums.{count_by-le-length}
-use Rattle.std.specs.BTreeMap.Range.{entries_between, is_from_start, is_past_end}
-use Rattle.std.specs.Cmp.{IsTotalOrder}
-use Rattle.std.specs.Ordering.{is_le}
-use Rattle.std.specs.declared.cmp.Ordering.{Ordering}
-use Rattle.std.specs.declared.ops.Bound.{Bound}
-use Rattle.std.specs.declared.ops.Bound.TheVariants.{Included, Excluded, Unbounded}
 use Rattle.btree_item.proofs.PairLemmas.{before-from_Err, before-from_Ok, found-from_Err}
-use Rattle.btree_item.specs.Address.{Address}
-use Rattle.btree_laws.proofs.AddressLists.Whole.{addresses-tree}
-use Rattle.btree_laws.proofs.LookUp.KeyInList.{Rises, rises}
 use Rattle.btree_laws.proofs.Places.OnePlace.{one_place-well}
-use Rattle.btree_laws.specs.TreeAddresses.{item_addresses_of}
-use Rattle.btree_laws.specs.TreeState.{TreeState, IsBTree, item_of, node_map, pairs_of}
-use Rattle.btree_laws.specs.Visits.{prior}
 use Rattle.btree_find.specs.Answers.{IsFoundAt, IsGapAt}
 use Rattle.btree_find.specs.Ends.{IsFirstItem, IsLastItem}
-use Rattle.btree_find.specs.Navigation.{IsNext, IsNormalized, IsPrevious}
+use Rattle.btree_find.specs.Navigation.{IsNormalized, IsPrevious}
 use Rattle.btree_walk.specs.Bounds.{pairs_from}
-use Rattle.btree_map.specs.Spans.{from_place, index_after, index_of, pairs_before, to_place}
+use Rattle.btree_map.specs.Spans.{pairs_before}
 use Rattle.btree_map.proofs.CursorLemmas.{before-listed, listed-item}
 use Rattle.btree_map.proofs.IndexLemmas.{IsOnce, after-is, index-is}
 use Rattle.btree_map.proofs.PlaceLemmas.{below-end, below-place, between-places, count-all, count-none, drop-from, order-of, past-found, past-missing, take-from, up_to-found, up_to-missing}

@@ -1,22 +1,14 @@
 -- A step of a cursor over a range: what is left, and where the ends stand.
-use Rattle.std.proofs.Common.{◌≡◌, ◌∙◌, ℕ, ◌+◌, ◌-◌, ◌<◌, ◌∷◌, ◌++◌, [], Bool, false, true, not, List, Option, Some, length, nat_lt, take, drop, slice_get, inl, inr, sym, ap, arith}
-use Rattle.std.proofs.lemmas.Bool.{cases_Bool, ltb-false, ltb-true, not-true}
-use Rattle.std.proofs.lemmas.List.{length-drop, length-take}
+use Rattle.btree_map.proofs.Common.{◌≡◌, ◌∙◌, ℕ, ◌+◌, ◌-◌, ◌<◌, ◌∷◌, ◌++◌, [], Bool, false, true, not, List, Option, Some, length, nat_lt, take, drop, slice_get, inl, inr, sym, ap, arith, cases_Bool, ltb-false, ltb-true, length-take, Address, item_addresses_of, TreeState, pairs_of, prior, value_written, WritesPlace, or_nowhere, range_back, range_front, index_after, index_of, written-addresses}
+use Rattle.std.proofs.lemmas.Bool.{not-true}
+use Rattle.std.proofs.lemmas.List.{length-drop}
 use Rattle.std.specs.declared.cmp.Ord as ord
 use Rattle.std.specs.declared.cmp.PartialEq as eq
 use Rattle.std.specs.declared.cmp.PartialOrd as partial
-use Rattle.btree_item.specs.Address.{Address}
 use Rattle.btree_node.specs.declared.node_stores.Nodes as nodes
 use Rattle.btree_node.specs.declared.node_stores.NodesMut as nodes_mut
-use Rattle.btree_laws.specs.TreeAddresses.{item_addresses_of}
-use Rattle.btree_laws.specs.TreeState.{TreeState, pairs_of}
-use Rattle.btree_laws.specs.Visits.{prior}
-use Rattle.btree_ext.specs.ValueWritten.{value_written}
-use Rattle.btree_map.specs.Cursor.{WritesPlace, or_nowhere}
-use Rattle.btree_map.specs.RangeCursor.{WritesFirstInRange, WritesLastInRange, first_in_range, last_in_range, past_first, past_last, range_back, range_front, range_left}
+use Rattle.btree_map.specs.RangeCursor.{WritesFirstInRange, WritesLastInRange, first_in_range, last_in_range, past_first, past_last, range_left}
 use Rattle.btree_map.specs.SpanLaws.{at-index, before-index}
-use Rattle.btree_map.specs.Spans.{index_after, index_of}
-use Rattle.btree_map.specs.WrittenAddresses.{written-addresses}
 use Rattle.btree_map.specs.declared.cursor.RangeMut.{RangeMut}
 use Rattle.btree_map.proofs.IndexLemmas.{IsOnce, back-low, next-back, next-front}
 use Rattle.btree_map.proofs.SpanLemmas.{span-first, span-last}

@@ -1,11 +1,7 @@
 -- Removals at both ends of the list.
-use Rattle.std.proofs.Common.{◌≡◌, ◌∙◌, ◌-◌, ◌∷◌, ◌++◌, [], List, ℕ, zero, suc, length, slice_get, Some, None, refl, sym, ap, subst, arith}
+use Rattle.btree_map.proofs.Common.{◌≡◌, ◌∙◌, ◌-◌, ◌∷◌, ◌++◌, [], List, ℕ, zero, suc, length, slice_get, Some, None, refl, sym, ap, subst, arith, remove, Ordering, Address, TreeState, pairs_of}
 use Rattle.std.proofs.lemmas.Option.{slice_get_past}
-use Rattle.std.specs.List.{remove}
-use Rattle.std.specs.declared.cmp.Ordering.{Ordering}
-use Rattle.btree_item.specs.Address.{Address}
 use Rattle.btree_node.proofs.RoomLemmas.{none-last}
-use Rattle.btree_laws.specs.TreeState.{TreeState, pairs_of}
 use Rattle.btree_find.specs.CallerLaws.{none-first}
 use Rattle.btree_find.specs.Ends.{IsFirstItem, IsLastItem}
 use Rattle.btree_find.specs.Navigation.{IsItemAddress, IsItemBefore}

@@ -1,16 +1,10 @@
 -- Two cursors with the same map, addresses and places are equal.
-use Rattle.std.proofs.Common.{◌≡◌, ◌≤◌, ℕ, Bool, Option, length, nat_lt, slice_get}
-use Rattle.std.specs.Borrow.{MutBor}
+use Rattle.btree_map.proofs.Common.{◌≡◌, ◌≤◌, ℕ, Bool, Option, length, nat_lt, slice_get, MutBor, Address, item_addresses_of, TreeState, prior, index_after, index_of}
 use Rattle.std.specs.declared.cmp.Ord as ord
 use Rattle.std.specs.declared.cmp.PartialEq as eq
 use Rattle.std.specs.declared.cmp.PartialOrd as partial
-use Rattle.btree_item.specs.Address.{Address}
 use Rattle.btree_node.specs.declared.node_stores.Nodes as nodes
 use Rattle.btree_node.specs.declared.node_stores.NodesMut as nodes_mut
-use Rattle.btree_laws.specs.TreeAddresses.{item_addresses_of}
-use Rattle.btree_laws.specs.TreeState.{TreeState}
-use Rattle.btree_laws.specs.Visits.{prior}
-use Rattle.btree_map.specs.Spans.{index_after, index_of}
 use Rattle.btree_map.specs.declared.cursor.IterMut.{IterMut}
 use Rattle.btree_map.specs.declared.cursor.RangeMut.{RangeMut}
 use Rattle.btree_map.specs.declared.cursor.ValuesMut.{ValuesMut}

@@ -1,16 +1,12 @@
 -- Two editing cursors with the same map, address and count are equal.
-use Rattle.std.proofs.Common.{◌≡◌, ℕ, Option}
+use Rattle.btree_map.proofs.Common.{◌≡◌, ℕ, Option, MutBor, Address, TreeState, item_index, EntriesMut}
 use Rattle.std.specs.Option.{ForSome}
-use Rattle.std.specs.Borrow.{MutBor}
 use Rattle.std.specs.declared.cmp.Ord as ord
 use Rattle.std.specs.declared.cmp.PartialEq as eq
 use Rattle.std.specs.declared.cmp.PartialOrd as partial
-use Rattle.btree_item.specs.Address.{Address}
 use Rattle.btree_node.specs.declared.node_stores.Nodes as nodes
 use Rattle.btree_node.specs.declared.node_stores.NodesMut as nodes_mut
-use Rattle.btree_laws.specs.TreeState.{TreeState}
-use Rattle.btree_map.specs.Spans.{IsFirstListed, item_index}
-use Rattle.btree_map.specs.declared.cursor.editing.EntriesMut.{EntriesMut}
+use Rattle.btree_map.specs.Spans.{IsFirstListed}
 use Rattle.btree_map.proofs.SameCursor.{address-prop}
 use denote.Struct.Props.{props}
 use mathlib.Core.HLevel.{is_prop→PathP}

@@ -1,14 +1,11 @@
 -- Two occupied entries with the same map and address are equal.
-use Rattle.std.proofs.Common.{◌≡◌, IsSome}
+use Rattle.btree_map.proofs.Common.{◌≡◌, IsSome, MutBor, Address, TreeState, item_of}
 use Rattle.std.proofs.Math.Bool.{Bool-set}
-use Rattle.std.specs.Borrow.{MutBor}
 use Rattle.std.specs.declared.cmp.Ord as ord
 use Rattle.std.specs.declared.cmp.PartialEq as eq
 use Rattle.std.specs.declared.cmp.PartialOrd as partial
-use Rattle.btree_item.specs.Address.{Address}
 use Rattle.btree_node.specs.declared.node_stores.Nodes as nodes
 use Rattle.btree_node.specs.declared.node_stores.NodesMut as nodes_mut
-use Rattle.btree_laws.specs.TreeState.{TreeState, item_of}
 use Rattle.btree_map.specs.declared.entry.OccupiedEntry.{OccupiedEntry}
 
 module _ {K V C O : Type 0} {g : ord.Ghosts K} {g' : eq.Ghosts K} {g'' : partial.Ghosts K} {s : nodes_mut.Ghosts C K V O} {s' : nodes.Ghosts C K V} where

@@ -1,8 +1,9 @@
 -- The part of a list from one place up to another, without its first element, and without its last one.
-use Rattle.std.proofs.Common.{◌≡◌, ◌∙◌, ℕ, suc, ◌+◌, ◌-◌, ◌<◌, List, [], ◌∷◌, ◌++◌, Some, take, drop, set, get_or, slice_get, sym, ap, arith, get_or-drop, length-drop}
+use Rattle.btree_map.proofs.Common.{◌≡◌, ◌∙◌, ℕ, suc, ◌+◌, ◌-◌, ◌<◌, List, [], ◌∷◌, ◌++◌, Some, take, drop, set, slice_get, sym, ap, arith, length-drop, slice_get_within}
+use Rattle.std.proofs.Common.{get_or, get_or-drop}
 use Rattle.std.proofs.Math.Seq.{take-suc}
 use Rattle.std.proofs.lemmas.List.{at_drop_more, drop-set-lt, drop-take, take-set-le}
-use Rattle.std.proofs.lemmas.Option.{get_or_from_slice_get, slice_get_within}
+use Rattle.std.proofs.lemmas.Option.{get_or_from_slice_get}
 
 module _ {X : Type 0} (xs : List X) (front back : ℕ) (some : front < back) (x y : X) where
   pub span-first : slice_get xs front ≡ Some x

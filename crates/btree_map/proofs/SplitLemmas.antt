@@ -1,18 +1,9 @@
 -- A list in two parts at a start bound, of which the second one is moved from its end.
-use Rattle.std.proofs.Common.{◌≡◌, ◌∙◌, ◌+◌, ◌-◌, suc, Bool, true, false, not, ◌&&◌, List, [], ◌∷◌, ◌++◌, length, length-append, slice_get, Option, Some, None, MatchOption, IfSome, refl, sym, ap, arith, append_assoc}
-use Rattle.std.proofs.lemmas.Option.{same_Some}
-use Rattle.std.specs.BTreeMap.Range.{entries_between, is_from_start, range_contains}
-use Rattle.std.specs.Cmp.{IsTotalOrder}
-use Rattle.std.specs.List.{AllByRecursion, filter}
-use Rattle.std.specs.declared.cmp.Ordering.{Ordering}
-use Rattle.std.specs.Ordering.{is_gt, is_le}
-use Rattle.std.specs.declared.cmp.Ordering.TheVariants.{Equal, Greater, Less}
-use Rattle.std.specs.declared.ops.Bound.{Bound}
-use Rattle.std.specs.declared.ops.Bound.TheVariants.{Unbounded}
-use Rattle.btree_item.specs.Pairs.{inserted}
+use Rattle.btree_map.proofs.Common.{◌≡◌, ◌∙◌, ◌+◌, ◌-◌, suc, Bool, true, false, not, ◌&&◌, List, [], ◌∷◌, ◌++◌, length, length-append, slice_get, Option, Some, None, IfSome, refl, sym, ap, arith, append_assoc, same_Some, entries_between, is_from_start, range_contains, IsTotalOrder, AllByRecursion, filter, Ordering, is_gt, is_le, Equal, Greater, Less, Bound, Unbounded, inserted, Rises, all-so, filter-earlier}
+use Rattle.std.proofs.Common.{MatchOption}
 use Rattle.btree_item.proofs.PairLemmas.{inserted-from_Err}
-use Rattle.btree_laws.proofs.LookUp.KeyInList.{Rises, place-miss, reversed}
-use Rattle.btree_walk.proofs.BoundLemmas.{all-so, filter-earlier, filter-later, from-on}
+use Rattle.btree_laws.proofs.LookUp.KeyInList.{place-miss, reversed}
+use Rattle.btree_walk.proofs.BoundLemmas.{filter-later, from-on}
 use Rattle.btree_map.specs.Lists.{last_of}
 use Rattle.btree_map.specs.Splitting.{AreBefore}
 

@@ -1,15 +1,8 @@
 -- A value that was written after its key was inserted, and one that was written at the address of a key that is there.
-use Rattle.std.proofs.Common.{◌≡◌, ◌∙◌, List, Option, Some, None, set, refl, sym, ap, option_map}
-use Rattle.std.proofs.lemmas.Option.{same_Some}
-use Rattle.std.specs.Cmp.{IsTotalOrder}
-use Rattle.std.specs.declared.cmp.Ordering.{Ordering}
-use Rattle.btree_item.specs.Pairs.{before}
+use Rattle.btree_map.proofs.Common.{◌≡◌, ◌∙◌, List, Option, Some, None, set, refl, sym, ap, option_map, same_Some, IsTotalOrder, Ordering, before, Address, TreeState, IsBTree, item_of, pairs_of, value_written}
 use Rattle.btree_item.proofs.PairEdits.{before-le-length}
-use Rattle.btree_item.specs.Address.{Address}
-use Rattle.btree_laws.specs.TreeState.{TreeState, IsBTree, item_of, pairs_of}
 use Rattle.btree_ext.specs.Exchange.{IsValueExchanged}
 use Rattle.btree_ext.specs.InsertAbsent.{InsertsAbsent}
-use Rattle.btree_ext.specs.ValueWritten.{value_written}
 use Rattle.btree_ext.specs.WrittenLaws.{written-item}
 use Rattle.btree_map.specs.Written.{IsInsertedWith, WritesValueAt, list_written, with_value_of}
 use Rattle.btree_map.proofs.ListLemmas.{set-inserted, set-stored, with_value-twice}

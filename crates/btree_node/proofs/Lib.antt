@@ -1,3 +1,4 @@
+pub mod Common
 pub mod LookUpLemmas
 pub mod NodeLemmas
 pub mod SplitSizes

@@ -1,9 +1,9 @@
 -- What a look-up in a node returns, by what is found and by the child that may hold the key.
-use Rattle.std.proofs.Common.{◌≡◌, ℕ, Option, Some, None, Ok, Err, Result, refl, sym, ap, Ordering}
+use Rattle.btree_node.proofs.Common.{◌≡◌, ℕ, Option, Some, None, Ok, Err, refl, sym, ap, View, items_of}
+use Rattle.std.proofs.Common.{Result, Ordering}
 use Rattle.std.specs.Result.{result_map_both}
 use Rattle.btree_item.specs.Pairs.{found_value}
 use Rattle.btree_view.specs.LookUp.{looked_up, look_up, found_or, child_for, find_in}
-use Rattle.btree_view.specs.View.{View, items_of}
 
 -- the result of `find_mut` as that of `get_mut`
 abbrev pub as_looked_up : {V : Type 0} → Result V (Option ℕ) → Result (Option V) ℕ

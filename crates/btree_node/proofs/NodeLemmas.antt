@@ -1,19 +1,17 @@
 -- The view of a node after an insertion into one kind of node, and after a write to an item.
 use mathlib.Core.Option as maybe
-use Rattle.std.proofs.Common.{◌≡◌, ℕ, List, Option, Some, None, set, map, length, ◌∷◌, refl, ap, sym, ◌∙◌}
-use Rattle.std.proofs.lemmas.List.{length-map, length-set}
+use Rattle.btree_node.proofs.Common.{◌≡◌, ℕ, Option, Some, None, refl, ap, sym, ◌∙◌, length-map, Node, leaf_view, view_of, View, items_of, children_of}
+use Rattle.std.proofs.Common.{List, set, map, length, ◌∷◌}
+use Rattle.std.proofs.lemmas.List.{length-set}
 use Rattle.std.proofs.lemmas.Slice.Zip.{firsts-zip, seconds-zip}
-use Rattle.btree_node.specs.declared.node.Node.{Node}
 use Rattle.btree_node.specs.declared.node.Node.TheVariants.{Leaf as OfLeaf, Internal as OfInternal}
 use Rattle.btree_view.specs.Edits.{is_internal, with_item_at, with_items}
 use Rattle.btree_leaf.specs.Leaf.{Leaf}
 use Rattle.btree_view.specs.Kept.{insert_at}
 use Rattle.btree_leaf.specs.LeafLends.{leaf_with_item_at}
-use Rattle.btree_leaf.specs.Leaf.{leaf_view}
-use Rattle.btree_node.specs.Node.{view_of}
 use Rattle.btree_internal.specs.InternalLends.{internal_with_item_at}
 use Rattle.btree_node.specs.NodeLends.{node_with_item_at}
-use Rattle.btree_view.specs.View.{View, leaf, internal, parent_of, items_of, children_of}
+use Rattle.btree_view.specs.View.{leaf, internal, parent_of}
 
 -- a payload written if the value has that variant
 abbrev pub put_when : {D P Y : Type 0} → (Y → P → D) → maybe.Option P → D → Y → D

@@ -1,8 +1,9 @@
 -- A part of a node fits in memory if the node does.
-use denote.Param.{layout, number, param}
+use Rattle.btree_node.proofs.Common.{param, ◌<◌, arith}
+use denote.Param.{layout, number}
 use denote.RattleType.{RattleType}
 use prog.Memory.{size}
-use Rattle.std.proofs.Common.{◌<◌, ◌^◌, arith}
+use Rattle.std.proofs.Common.{◌^◌}
 use Rattle.btree_node.specs.contracts.node.Node.{the_row as node_row}
 use Rattle.btree_item.specs.contracts.slots.Slots.{the_row as slots_row}
 use Rattle.btree_internal.specs.contracts.internal.Branch.{the_row as branch_row}

@@ -1,9 +1,10 @@
 -- Whether a node is full, lists by index, and the items and branches of a node so.
-use Rattle.std.proofs.Common.{◌≡◌, ◌≤◌, IsTrue, leb, ℕ, zero, suc, ◌+◌, List, [], ◌∷◌, ◌-◌, Option, Some, None, drop, length, map, refl, sym, ap, subst, ◌∙◌, arith}
+use Rattle.btree_node.proofs.Common.{◌≡◌, ℕ, Option, Some, None, refl, sym, ap, subst, ◌∙◌, arith, slice_get}
+use Rattle.std.proofs.Common.{◌≤◌, IsTrue, leb, zero, suc, ◌+◌, List, [], ◌∷◌, ◌-◌, drop, length, map}
 use Rattle.std.proofs.lemmas.Bool.Decides.{nat_tests}
 use Rattle.std.proofs.lemmas.List.{drop_more}
 use Rattle.std.proofs.lemmas.Option.{slice_get_within, get_or_from_slice_get, slice_get-map}
-use Rattle.std.specs.Prelude.{slice_get, OnSome}
+use Rattle.std.specs.Prelude.{OnSome}
 use Rattle.std.specs.Option.{option_map}
 use Rattle.btree_item.specs.declared.item.Item.{Item}
 use Rattle.btree_internal.specs.declared.internal.Branch.{Branch}

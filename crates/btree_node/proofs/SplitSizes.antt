@@ -1,10 +1,8 @@
 -- How many items the left part of a split has.
-use Rattle.std.proofs.Common.{◌≡◌, ◌∙◌, ap}
-use Rattle.std.proofs.lemmas.List.{length-map}
+use Rattle.btree_node.proofs.Common.{◌≡◌, ◌∙◌, ap, length-map, View, size_of, leaf_view, internal_view}
 use Rattle.btree_view.specs.Edits.{IsSplit}
-use Rattle.btree_view.specs.View.{View, size_of}
-use Rattle.btree_leaf.specs.Leaf.{Leaf, leaf_view}
-use Rattle.btree_internal.specs.Internal.{Internal, internal_view}
+use Rattle.btree_leaf.specs.Leaf.{Leaf}
+use Rattle.btree_internal.specs.Internal.{Internal}
 
 module _ {K V : Type 0} where
   pub size-split_leaf : (node : Leaf K V) (x : K × V) (left right : View (K × V)) → IsSplit (leaf_view node) x left right → size_of left ≡ 4

@@ -1,21 +1,13 @@
 -- The steps of the code at the back, by the laws of what is left.
 use Rattle.std.specs.Prelude.{map as list_map}
-use Rattle.std.proofs.Common.{◌≡◌, ◌≢◌, ◌<◌, ◌≤◌, inl, inr, ℕ, zero, suc, ◌+◌, List, [], ◌∷◌, ◌++◌, length, Option, Some, None, refl, sym, ap, subst, ◌∙◌, arith, slice_get, option_map}
-use Rattle.std.proofs.lemmas.Option.{same_Some}
+use Rattle.btree_owned_walk.proofs.Common.{◌≡◌, ◌≢◌, ◌<◌, ◌≤◌, inl, inr, ℕ, zero, suc, ◌+◌, List, [], ◌∷◌, ◌++◌, length, Option, Some, None, refl, sym, ap, subst, ◌∙◌, arith, slice_get, option_map, same_Some, Node, view_of, View, leaf, internal, NodeMap, children_of, size_of, HasChildFor, Subtree, id_of, items_under, times_under, view_at, TreeState, node_map, zero-or, writes_node, with_node, HasAny, LastGone, last_of, HoldsRest, HoldsDownTo, AtLast, AreApart, IsRest, without_last, IsClimbing, ReleasesSpent, StandsAtBack, TakesLast}
 use Rattle.std.specs.FinMap as map
-use Rattle.btree_node.specs.declared.node.Node.{Node}
-use Rattle.btree_node.specs.Node.{view_of}
 use Rattle.btree_item.specs.declared.TheConstants.{MAX_LEVELS}
-use Rattle.btree_view.specs.View.{View, leaf, internal, NodeMap, children_of, size_of}
-use Rattle.btree_view.specs.Edits.{HasChildFor, pushed_right}
-use Rattle.btree_laws.specs.Focus.Subtree.{Subtree, id_of, items_under, times_under, view_at}
-use Rattle.btree_laws.specs.TreeState.{TreeState, node_map}
-use Rattle.btree_laws.proofs.Trees.Numbers.{same-or, zero-or}
+use Rattle.btree_view.specs.Edits.{pushed_right}
+use Rattle.btree_laws.proofs.Trees.Numbers.{same-or}
 use Rattle.btree_laws.specs.Step.{WritesNode}
-use Rattle.btree_laws.proofs.Trees.Stores.{writes_node}
-use Rattle.btree_raw.specs.Raw.{with_node}
-use Rattle.btree_owned_walk.specs.Rest.{HasAny, LastGone, last_id, last_of, HoldsRest, HoldsDownTo, AtLast, AreApart, IsRest, without_last}
-use Rattle.btree_owned_walk.specs.Ends.{HasLast, IsClimbing, KeepsBack, ReleasesSpent, StandsAtBack, TakesLast}
+use Rattle.btree_owned_walk.specs.Rest.{last_id}
+use Rattle.btree_owned_walk.specs.Ends.{HasLast, KeepsBack}
 use Rattle.btree_owned_walk.proofs.RestLemmas.{top-used, top-there}
 use Rattle.btree_owned_walk.proofs.StartLemmas.{root-at-last}
 use Rattle.btree_owned_walk.proofs.ChainLemmas.{last-rest, on-last-under}

@@ -1,13 +1,6 @@
 -- The node above one on the way to the first item, or to the last, is on that way too.
-use Rattle.std.proofs.Common.{◌≡◌, ◌<◌, ◌≤◌, ◌⊎◌, inl, inr, ℕ, zero, suc, ◌+◌, List, [], ◌∷◌, ◌++◌, Option, Some, sym, ap, subst, ◌∙◌, arith}
-use Rattle.std.proofs.lemmas.Option.{same_Some}
-use Rattle.std.specs.List.{AllByRecursion}
-use Rattle.btree_view.specs.View.{View, NodeMap, parent_of}
-use Rattle.btree_laws.specs.Lists.{one, total}
-use Rattle.btree_laws.specs.Focus.Subtree.{Subtree, id_of, items_under, later_items, times_under, view_at}
-use Rattle.btree_laws.proofs.Paths.Frames.{one-self}
+use Rattle.btree_owned_walk.proofs.Common.{◌≡◌, ◌<◌, ◌≤◌, ◌⊎◌, inl, inr, ℕ, zero, suc, ◌+◌, List, [], ◌∷◌, ◌++◌, Option, Some, sym, ap, subst, ◌∙◌, arith, same_Some, AllByRecursion, View, NodeMap, parent_of, one, total, Subtree, id_of, items_under, later_items, times_under, view_at, one-self, HasAny, HoldsRest, DownIn, HoldsDownTo, OnFirst, OnLast, AtLast, last_of, AreApart}
 use Rattle.btree_laws.proofs.Trees.Sizes.{view-parent}
-use Rattle.btree_owned_walk.specs.Rest.{HasAny, HoldsRest, DownIn, HoldsDownTo, OnFirst, OnLast, AtLast, last_of, AreApart}
 use Rattle.btree_owned_walk.proofs.RestLemmas.{any-left, any-right, top-used}
 use Rattle.btree_owned_walk.proofs.ClimbLemmas.{down-top, down-under}
 

@@ -1,12 +1,6 @@
 -- Nodes in which nothing is left are removed, from one node upward.
-use Rattle.std.proofs.Common.{◌≡◌, ◌≢◌, ◌<◌, ◌≤◌, ◌⊎◌, inl, inr, ℕ, zero, suc, ◌+◌, List, [], ◌∷◌, ◌++◌, map, Option, Some, None, refl, sym, ap, subst, ◌∙◌, arith}
-use Rattle.std.proofs.lemmas.Option.{same_Some}
-use Rattle.std.specs.List.{AllByRecursion}
-use Rattle.btree_view.specs.View.{View, leaf, NodeMap, items_of, parent_of}
-use Rattle.btree_laws.specs.Lists.{one, total}
-use Rattle.btree_laws.specs.Focus.Subtree.{Subtree, id_of, items_under, later_items, times_under, view_at}
-use Rattle.btree_laws.proofs.Paths.Frames.{one-self}
-use Rattle.btree_owned_walk.specs.Rest.{HasAny, FirstGone, HoldsRest, DownIn, HoldsDownTo, AreApart}
+use Rattle.btree_owned_walk.proofs.Common.{◌≡◌, ◌≢◌, ◌<◌, ◌≤◌, ◌⊎◌, inl, inr, ℕ, zero, suc, ◌+◌, List, [], ◌∷◌, ◌++◌, map, Option, Some, None, refl, sym, ap, subst, ◌∙◌, arith, same_Some, AllByRecursion, View, leaf, NodeMap, parent_of, one, total, Subtree, id_of, items_under, later_items, times_under, view_at, one-self, HasAny, FirstGone, HoldsRest, DownIn, HoldsDownTo, AreApart}
+use Rattle.btree_view.specs.View.{items_of}
 use Rattle.btree_owned_walk.proofs.RestLemmas.{any-is, any-left, any-or, any-right, gone-any, same-rest, same-rests, top-gone, top-rest}
 
 bare-map : {X Y : Type 0} (f : X → Y) (xs : List X) → map f xs ≡ [] → xs ≡ []

@@ -1,20 +1,15 @@
 -- The nodes that are left are those of the start with an item left.
-use Rattle.std.proofs.Common.{◌≡◌, ◌<◌, ◌≤◌, inl, inr, ℕ, zero, suc, ◌+◌, List, [], ◌∷◌, ◌++◌, length, Option, Some, None, refl, sym, ap, ◌∙◌, arith, length-append}
+use Rattle.btree_owned_walk.proofs.Common.{◌≡◌, ◌<◌, ◌≤◌, inl, inr, ℕ, zero, suc, ◌+◌, List, [], ◌∷◌, ◌++◌, length, Option, Some, None, refl, sym, ap, ◌∙◌, arith, Content, Node, views, AllByRecursion, View, leaf, NodeMap, one, total, Subtree, items_under, later_items, times_under, view_at, one-self, zero-or, HasAny, HoldsRest, AreApart, IsRest, first_gone, tail_of, without_first, init_of, without_last, met}
+use Rattle.std.proofs.Common.{length-append}
 use Rattle.std.specs.FinMap as fin
-use Rattle.btree_store.specs.Content.{Content}
-use Rattle.btree_node.specs.declared.node.Node.{Node}
-use Rattle.btree_laws.specs.TreeState.{views}
 use Rattle.btree_laws.proofs.Trees.Stores.{len-views}
 use Rattle.std.proofs.lemmas.Bool.Decides.{nat_tests}
-use Rattle.std.specs.List.{AllByRecursion, flat_map}
-use Rattle.btree_view.specs.View.{View, leaf, NodeMap}
-use Rattle.btree_laws.specs.Lists.{one, times_listed, total}
+use Rattle.std.specs.List.{flat_map}
+use Rattle.btree_laws.specs.Lists.{times_listed}
 use Rattle.btree_laws.specs.WellFormed.{times_used}
-use Rattle.btree_laws.specs.Focus.Subtree.{Subtree, items_under, later_items, times_under, view_at}
-use Rattle.btree_laws.proofs.Paths.Frames.{one-self}
-use Rattle.btree_laws.proofs.Trees.Numbers.{listed-append, zero-or}
-use Rattle.btree_owned_walk.specs.Rest.{HasAny, if_any, HoldsRest, AreApart, IsRest, first_gone, tail_of, without_first, init_of, last_end, later_out, last_out, without_last}
-use Rattle.btree_owned_walk.specs.NodesLeft.{meets, met, met_later}
+use Rattle.btree_laws.proofs.Trees.Numbers.{listed-append}
+use Rattle.btree_owned_walk.specs.Rest.{if_any, last_end, later_out, last_out}
+use Rattle.btree_owned_walk.specs.NodesLeft.{meets, met_later}
 use Rattle.btree_owned_walk.specs.Leaving.{CountsOf}
 use Rattle.btree_owned_walk.proofs.RestLemmas.{any-or, append-none, out-gone, out-left}
 

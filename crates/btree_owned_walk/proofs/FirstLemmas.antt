@@ -1,13 +1,6 @@
 -- The first item is taken where it lies: what is left then, before the nodes without items are removed.
-use Rattle.std.proofs.Common.{◌≡◌, ◌≢◌, ◌<◌, ◌≤◌, inl, inr, ℕ, zero, suc, ◌+◌, List, [], ◌∷◌, ◌++◌, map, Option, Some, None, sym, ap, subst, ◌∙◌, arith}
-use Rattle.std.specs.List.{AllByRecursion}
-use Rattle.btree_view.specs.View.{View, internal, NodeMap}
-use Rattle.btree_view.specs.Edits.{HasChildFor, pushed_left}
-use Rattle.btree_laws.specs.Lists.{one, total}
-use Rattle.btree_laws.specs.Focus.Subtree.{Subtree, id_of, items_under, later_items, times_under, view_at}
+use Rattle.btree_owned_walk.proofs.Common.{◌≡◌, ◌≢◌, ◌<◌, ◌≤◌, inl, inr, ℕ, zero, suc, ◌+◌, List, [], ◌∷◌, ◌++◌, map, Option, Some, None, sym, ap, subst, ◌∙◌, arith, AllByRecursion, View, internal, NodeMap, HasChildFor, pushed_left, one, total, Subtree, id_of, items_under, later_items, times_under, view_at, one-self, HasAny, FirstGone, HoldsRest, HoldsDownTo, OnFirst, AtFirst, first_gone, first_out, without_first, AreApart}
 use Rattle.btree_laws.proofs.LookUp.Descent.{cons-parts}
-use Rattle.btree_laws.proofs.Paths.Frames.{one-self}
-use Rattle.btree_owned_walk.specs.Rest.{HasAny, FirstGone, HoldsRest, HoldsDownTo, OnFirst, AtFirst, first_gone, first_out, without_first, AreApart}
 use Rattle.btree_owned_walk.proofs.RestLemmas.{at-first-any, at-first-under, first-id, gone-none, internal-pop, leaf-pop, out-gone, out-left, same-rest, same-rests, any-or, top-gone, top-there, top-used}
 
 pub nil-cons : {X : Type 0} (x : X) (xs : List X) → [] ≡ x ∷ xs → ⊥

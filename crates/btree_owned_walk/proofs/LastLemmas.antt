@@ -1,13 +1,9 @@
 -- The last item is taken where it lies: what is left then, before the nodes without items are removed.
-use Rattle.std.proofs.Common.{◌≡◌, ◌≢◌, ◌<◌, ◌≤◌, ◌⊎◌, inl, inr, ℕ, zero, suc, ◌+◌, List, [], ◌∷◌, ◌++◌, length, map, Option, Some, None, refl, sym, ap, subst, ◌∙◌, arith, append_assoc}
-use Rattle.std.specs.List.{AllByRecursion}
-use Rattle.btree_view.specs.View.{View, leaf, internal, NodeMap, size_of}
-use Rattle.btree_view.specs.Edits.{HasChildFor, pushed_right}
-use Rattle.btree_laws.specs.Lists.{one, total}
-use Rattle.btree_laws.specs.Focus.Subtree.{Subtree, id_of, items_under, later_items, times_under, view_at}
-use Rattle.btree_laws.proofs.Paths.Frames.{one-self}
+use Rattle.btree_owned_walk.proofs.Common.{◌≡◌, ◌≢◌, ◌<◌, ◌≤◌, ◌⊎◌, inl, inr, ℕ, zero, suc, ◌+◌, List, [], ◌∷◌, ◌++◌, length, map, Option, Some, None, refl, sym, ap, subst, ◌∙◌, arith, AllByRecursion, View, leaf, internal, NodeMap, size_of, HasChildFor, one, total, Subtree, id_of, items_under, later_items, times_under, view_at, one-self, HasAny, LastGone, init_of, without_last, HoldsRest, DownIn, HoldsDownTo, AtFirst, OnLast, AtLast, last_of, without_first, first_out, AreApart}
+use Rattle.std.proofs.Common.{append_assoc}
+use Rattle.btree_view.specs.Edits.{pushed_right}
 use Rattle.btree_laws.proofs.LookUp.Descent.{cons-parts}
-use Rattle.btree_owned_walk.specs.Rest.{HasAny, LastGone, init_of, last_id, last_end, later_out, last_out, without_last, HoldsRest, DownIn, HoldsDownTo, AtFirst, OnLast, AtLast, last_of, without_first, first_out, AreApart}
+use Rattle.btree_owned_walk.specs.Rest.{last_id, last_end, later_out, last_out}
 use Rattle.btree_owned_walk.proofs.RestLemmas.{gone-none, no-any, same-rest, same-rests, top-gone, top-there, top-used}
 use Rattle.btree_owned_walk.proofs.ChainLemmas.{at-last-any, last-rest, last-times, on-last-under}
 

@@ -1,15 +1,8 @@
 -- A step at a node that is a leaf: the item is taken from the node that was fetched.
-use Rattle.std.proofs.Common.{◌≡◌, ◌<◌, ℕ, Some, None, refl, sym, ap, slice_get, option_map}
+use Rattle.btree_owned_walk.proofs.Common.{◌≡◌, ◌<◌, ℕ, Some, None, refl, sym, ap, slice_get, option_map, Node, view_of, View, leaf, internal, NodeMap, children_of, size_of, TreeState, node_map, writes_node, with_node, LastGone, IsClimbing, ReleasesSpent}
 use Rattle.std.specs.FinMap as map
 use Rattle.btree_store.specs.ContentLaws.{insert-same}
-use Rattle.btree_node.specs.declared.node.Node.{Node}
-use Rattle.btree_node.specs.Node.{view_of}
-use Rattle.btree_view.specs.View.{View, leaf, internal, NodeMap, children_of, size_of}
-use Rattle.btree_laws.specs.TreeState.{TreeState, node_map}
-use Rattle.btree_laws.proofs.Trees.Stores.{writes_node}
-use Rattle.btree_raw.specs.Raw.{with_node}
-use Rattle.btree_owned_walk.specs.Rest.{LastGone}
-use Rattle.btree_owned_walk.specs.Ends.{HasFirst, HasLast, IsClimbing, ReleasesSpent}
+use Rattle.btree_owned_walk.specs.Ends.{HasFirst, HasLast}
 use Rattle.btree_owned_walk.proofs.StepLemmas.{bare-leaf, releasing-start, releasing-stops, spent-count}
 
 leaf-last : {A : Type 0} (node_at : NodeMap A) (v : View A) → slice_get (children_of v) 0 ≡ None → LastGone node_at v

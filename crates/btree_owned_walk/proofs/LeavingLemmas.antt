@@ -1,23 +1,18 @@
 -- The steps of a walk that takes the pairs of a tree out, and how many nodes it holds.
 use Rattle.std.specs.Prelude.{unwrap_or}
-use Rattle.std.proofs.Common.{◌≡◌, ◌<◌, ◌≤◌, ◌⊎◌, inl, inr, ℕ, zero, suc, ◌+◌, ◌-◌, ◌^◌, List, [], ◌∷◌, ◌++◌, length, take, drop, Option, Some, None, refl, sym, ap, subst, ◌∙◌, arith}
+use Rattle.btree_owned_walk.proofs.Common.{◌≡◌, ◌<◌, ◌≤◌, ◌⊎◌, inl, inr, ℕ, zero, suc, ◌+◌, ◌-◌, List, [], ◌∷◌, ◌++◌, length, Option, Some, None, refl, sym, ap, subst, ◌∙◌, arith, Content, Node, NodeMap, Subtree, id_of, items_under, times_under, TreeState, node_map, views, HasAny, init_of, tail_of, AtFirst, AtLast, IsRest, without_first, without_last, StandsAtBack, StandsAtFront, TakesFirst, TakesLast, met}
+use Rattle.std.proofs.Common.{◌^◌, take, drop}
 use Rattle.std.proofs.lemmas.List.{length-take-le, length-drop}
 use Rattle.std.specs.FinMap as fin
 use Rattle.std.specs.declared.cmp.Ordering.{Ordering}
-use Rattle.btree_store.specs.Content.{Content}
-use Rattle.btree_node.specs.declared.node.Node.{Node}
-use Rattle.btree_view.specs.View.{NodeMap}
 use Rattle.btree_laws.specs.Focus.Focus.{IsTree}
-use Rattle.btree_laws.specs.Focus.Subtree.{Subtree, id_of, items_under, times_under}
-use Rattle.btree_laws.specs.TreeState.{TreeState, IsBTree, node_map, pairs_of, views}
+use Rattle.btree_laws.specs.TreeState.{IsBTree, pairs_of}
 use Rattle.btree_laws.specs.WellFormed.{IsFormed, IsRooted, IsSized, times_used}
 use Rattle.btree_laws.proofs.Paths.FromRoot.{rooted-subtree}
 use Rattle.btree_laws.proofs.Trees.Density.{height-low}
 use Rattle.btree_laws.proofs.Trees.States.{height_held}
 use Rattle.btree_laws.proofs.Trees.Stores.{len-views}
-use Rattle.btree_owned_walk.specs.Rest.{HasAny, init_of, tail_of, AtFirst, AtLast, IsRest, without_first, without_last}
-use Rattle.btree_owned_walk.specs.Ends.{StandsAtBack, StandsAtFront, TakesFirst, TakesLast}
-use Rattle.btree_owned_walk.specs.NodesLeft.{met, nodes_under}
+use Rattle.btree_owned_walk.specs.NodesLeft.{nodes_under}
 use Rattle.btree_owned_walk.specs.Leaving.{HoldsLeft, IsLeaving, Remains, nodes_of}
 use Rattle.btree_owned_walk.specs.LeavingLaws.{none-of}
 use Rattle.btree_owned_walk.proofs.RestLemmas.{root-at-first, gone-none}

@@ -1,3 +1,4 @@
+pub mod Common
 pub mod RestLemmas
 pub mod FirstLemmas
 pub mod ClimbLemmas

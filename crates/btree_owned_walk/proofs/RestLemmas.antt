@@ -1,15 +1,7 @@
 -- What is left of a tree: its nodes in the store, and what a step at the front leaves.
-use Rattle.std.proofs.Common.{◌≡◌, ◌<◌, ◌≤◌, ◌⊎◌, inl, inr, ℕ, zero, suc, List, [], ◌∷◌, ◌++◌, Option, Some, None, refl, sym, ap, subst, ◌∙◌, arith}
-use Rattle.std.proofs.lemmas.Option.{same_Some}
+use Rattle.btree_owned_walk.proofs.Common.{◌≡◌, ◌<◌, ◌≤◌, ◌⊎◌, inl, inr, ℕ, zero, suc, List, [], ◌∷◌, ◌++◌, Option, Some, None, refl, sym, ap, subst, ◌∙◌, arith, same_Some, AllByRecursion, View, leaf, internal, NodeMap, HasChildFor, pushed_left, one, total, Subtree, id_of, items_under, later_items, times_under, view_at, one-self, zero-or, HasAny, tail_of, HoldsRest, AtFirst, first_gone, first_out, without_first}
 use Rattle.std.proofs.lemmas.Bool.Decides.{nat_tests}
-use Rattle.std.specs.List.{AllByRecursion}
-use Rattle.btree_view.specs.View.{View, leaf, internal, NodeMap}
-use Rattle.btree_view.specs.Edits.{HasChildFor, pushed_left}
-use Rattle.btree_laws.specs.Lists.{one, total}
-use Rattle.btree_laws.specs.Focus.Subtree.{Subtree, id_of, items_under, later_items, times_under, view_at}
-use Rattle.btree_laws.proofs.Paths.Frames.{one-self}
-use Rattle.btree_laws.proofs.Trees.Numbers.{zero-or}
-use Rattle.btree_owned_walk.specs.Rest.{HasAny, if_any, tail_of, HoldsRest, AtFirst, first_gone, first_out, without_first}
+use Rattle.btree_owned_walk.specs.Rest.{if_any}
 
 pub none-some : {X : Type 0} (o : Option X) (x : X) → o ≡ None → o ≡ Some x → ⊥
 none-some None x e f = cc

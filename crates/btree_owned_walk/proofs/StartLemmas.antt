@@ -1,15 +1,12 @@
 -- A well formed tree, from which nothing was taken yet, is what is left of itself.
-use Rattle.std.proofs.Common.{◌≡◌, ◌<◌, ◌≤◌, inl, ℕ, zero, suc, ◌+◌, List, [], ◌∷◌, length, map, Option, Some, None, refl, sym, ap, ◌∙◌, arith}
-use Rattle.std.specs.List.{AllByRecursion}
-use Rattle.btree_view.specs.View.{leaf, NodeMap}
+use Rattle.btree_owned_walk.proofs.Common.{◌≡◌, ◌<◌, ◌≤◌, inl, ℕ, zero, suc, ◌+◌, List, [], ◌∷◌, length, map, Option, Some, None, refl, sym, ap, ◌∙◌, arith, AllByRecursion, leaf, NodeMap, Subtree, id_of, items_under, later_items, view_at, HasAny, HoldsRest, AtLast, IsRest, met}
 use Rattle.btree_laws.specs.Focus.Focus.{IsTree}
-use Rattle.btree_laws.specs.Focus.Subtree.{Subtree, id_of, items_under, later_items, view_at, Holds, IsFilled, IsFilledBelow, count_at}
+use Rattle.btree_laws.specs.Focus.Subtree.{Holds, IsFilled, IsFilledBelow, count_at}
 use Rattle.btree_laws.specs.Represents.{represented, represented_in}
 use Rattle.btree_laws.proofs.Trees.Numbers.{used-low, used-none}
 use Rattle.btree_laws.proofs.Trees.Represented.{represented-is}
 use Rattle.btree_laws.proofs.Trees.Subtrees.{represents-of}
-use Rattle.btree_owned_walk.specs.Rest.{HasAny, HoldsRest, AtLast, IsRest}
-use Rattle.btree_owned_walk.specs.NodesLeft.{meets, met, met_later, nodes_in, nodes_later, nodes_under}
+use Rattle.btree_owned_walk.specs.NodesLeft.{meets, met_later, nodes_in, nodes_later, nodes_under}
 use Rattle.btree_owned_walk.proofs.RestLemmas.{any-is, any-right}
 
 module _ (A : Type 0) where

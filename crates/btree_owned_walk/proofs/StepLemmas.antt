@@ -1,24 +1,17 @@
 -- The steps of the code, by the laws of what is left.
 use Rattle.std.specs.Prelude.{map as list_map}
-use Rattle.std.proofs.Common.{false, IsTrue, ◌≡◌, ◌≢◌, ◌<◌, ◌≤◌, inl, inr, ℕ, zero, suc, ◌+◌, List, [], ◌∷◌, ◌++◌, length, Option, Some, None, IsSome, refl, sym, ap, subst, ◌∙◌, arith, slice_get, option_map}
-use Rattle.std.proofs.lemmas.Option.{same_Some}
+use Rattle.btree_owned_walk.proofs.Common.{◌≡◌, ◌≢◌, ◌<◌, ◌≤◌, inl, inr, ℕ, zero, suc, ◌+◌, List, [], ◌∷◌, ◌++◌, length, Option, Some, None, refl, sym, ap, subst, ◌∙◌, arith, slice_get, option_map, same_Some, Content, Node, view_of, View, leaf, internal, NodeMap, children_of, parent_of, size_of, HasChildFor, pushed_left, Subtree, id_of, items_under, later_items, times_under, view_at, TreeState, node_map, views, zero-or, writes_node, with_node, HasAny, FirstGone, HoldsRest, HoldsDownTo, OnFirst, OnLast, AtFirst, AreApart, IsRest, without_first, IsClimbing, ReleasesSpent, StandsAtFront, TakesFirst}
+use Rattle.std.proofs.Common.{false, IsTrue, IsSome}
 use Rattle.std.specs.FinMap as map
-use Rattle.btree_store.specs.Content.{Content}
 use Rattle.btree_store.specs.ContentLaws.{get-remove_other, get-remove_same, insert-remove, len-insert_unused}
-use Rattle.btree_node.specs.declared.node.Node.{Node}
-use Rattle.btree_node.specs.Node.{view_of}
 use Rattle.btree_item.specs.declared.TheConstants.{MAX_LEVELS}
-use Rattle.btree_view.specs.View.{View, leaf, internal, NodeMap, items_of, children_of, parent_of, size_of}
-use Rattle.btree_view.specs.Edits.{HasChildFor, pushed_left}
-use Rattle.btree_laws.specs.Focus.Subtree.{Subtree, id_of, items_under, later_items, times_under, view_at}
-use Rattle.btree_laws.specs.TreeState.{TreeState, KeepsRest, node_map, views}
-use Rattle.btree_laws.proofs.Trees.Numbers.{same-or, zero-or}
+use Rattle.btree_view.specs.View.{items_of}
+use Rattle.btree_laws.specs.TreeState.{KeepsRest}
+use Rattle.btree_laws.proofs.Trees.Numbers.{same-or}
 use Rattle.btree_laws.proofs.Trees.Sizes.{view-parent}
 use Rattle.btree_laws.specs.Step.{WritesNode}
-use Rattle.btree_laws.proofs.Trees.Stores.{writes_node}
-use Rattle.btree_raw.specs.Raw.{with_node}
-use Rattle.btree_owned_walk.specs.Rest.{HasAny, FirstGone, HoldsRest, HoldsDownTo, OnFirst, OnLast, AtFirst, AreApart, IsRest, IsSpent, without_first}
-use Rattle.btree_owned_walk.specs.Ends.{HasFirst, IsClimbing, KeepsFront, ReleasesSpent, StandsAtFront, TakesFirst}
+use Rattle.btree_owned_walk.specs.Rest.{IsSpent}
+use Rattle.btree_owned_walk.specs.Ends.{HasFirst, KeepsFront}
 use Rattle.btree_owned_walk.proofs.RestLemmas.{goes-first, first-times, no-any, none-some, top-gone, top-used, top-there}
 use Rattle.btree_owned_walk.proofs.FirstLemmas.{first-only, first-there, stays-first, takes-first}
 use Rattle.btree_owned_walk.proofs.ClimbLemmas.{climbs, down-top, down-used, stops}

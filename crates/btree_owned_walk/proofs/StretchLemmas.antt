@@ -1,13 +1,12 @@
 -- The stretches that `nodes_left` reads are those of the addresses of the tree at the start.
-use Rattle.std.proofs.Common.{◌≡◌, ◌<◌, ℕ, zero, suc, ◌+◌, List, [], ◌∷◌, ◌++◌, length, map, Option, Some, None, refl, sym, ap, subst, ◌∙◌, arith, append_assoc, append-nil, length-append}
-use Rattle.std.specs.List.{AllByRecursion}
+use Rattle.btree_owned_walk.proofs.Common.{◌≡◌, ◌<◌, ℕ, zero, suc, ◌+◌, List, [], ◌∷◌, ◌++◌, length, map, Option, Some, None, refl, sym, ap, subst, ◌∙◌, arith, AllByRecursion, NodeMap, Subtree, id_of, items_under, later_items, view_at, TreeState, node_map}
+use Rattle.std.proofs.Common.{append_assoc, append-nil, length-append}
 use Rattle.std.specs.FinMap as finmap
 use Rattle.std.specs.declared.cmp.Ordering.{Ordering}
-use Rattle.btree_view.specs.View.{NodeMap}
-use Rattle.btree_laws.specs.Focus.Subtree.{Subtree, Holds, id_of, items_under, later_items, view_at}
+use Rattle.btree_laws.specs.Focus.Subtree.{Holds}
 use Rattle.btree_laws.specs.Place.{IsSubtreeAt}
 use Rattle.btree_laws.specs.Represents.{represented}
-use Rattle.btree_laws.specs.TreeState.{TreeState, IsBTree, node_map, pairs_of}
+use Rattle.btree_laws.specs.TreeState.{IsBTree, pairs_of}
 use Rattle.btree_laws.specs.WellFormed.{IsFormed, IsRooted, IsSized}
 use Rattle.btree_laws.proofs.Paths.FromRoot.{rooted-subtree}
 use Rattle.btree_laws.proofs.Trees.States.{height_held}

@@ -1,19 +1,8 @@
 -- A removal of numbers from the ranges from a place on, step by step.
-use Rattle.std.proofs.Common.{◌≡◌, ◌≤◌, ◌<◌, ◌∙◌, ℕ, suc, List, length, set, slice_get, Option, Some, None, refl, sym, ap, subst, arith}
-use Rattle.std.specs.List.{remove}
-use Rattle.std.specs.Ordering.{nat_cmp}
-use Rattle.std.proofs.lemmas.List.{length-set}
-use Rattle.std.proofs.lemmas.List.Edits.{length-remove}
-use Rattle.std.proofs.lemmas.Option.{same_Some, slice_get_within}
-use Rattle.btree_item.specs.Pairs.{KeyFits}
-use Rattle.btree_item.specs.Address.{Address}
-use Rattle.btree_laws.specs.TreeState.{TreeState, item_of, pairs_of}
-use Rattle.btree_find.specs.Answers.{IsFoundAt}
+use Rattle.btree_range_set.proofs.Common.{◌≡◌, ◌≤◌, ◌<◌, ◌∙◌, ℕ, suc, List, length, set, slice_get, Option, Some, None, refl, sym, ap, subst, arith, remove, nat_cmp, length-set, length-remove, same_Some, slice_get_within, KeyFits, Address, TreeState, item_of, pairs_of, IsFoundAt, HasPlace, IsNormalized, EndsBefore, AreRuns, has_number}
 use Rattle.btree_find.specs.Fits.{ReplacesAt}
-use Rattle.btree_find.specs.Navigation.{HasPlace, IsNormalized}
 use Rattle.btree_ext.specs.Exchange.{IsExchanged}
-use Rattle.btree_range_set.specs.Places.{EndsBefore, StartsFrom}
-use Rattle.btree_range_set.specs.Ranges.{AreRuns, has_number}
+use Rattle.btree_range_set.specs.Places.{StartsFrom}
 use Rattle.btree_range_set.specs.Steps.{CanClear, Clears, TakesRange}
 use Rattle.btree_range_set.proofs.JoinLemmas.{taken-shorter}
 use Rattle.btree_range_set.proofs.LimitLemmas.{grows-not}

@@ -1,10 +1,11 @@
 -- The gaps between ranges: they are runs, of the numbers that are in no range.
-use Rattle.std.proofs.Common.{◌≡◌, ◌≤◌, ◌<◌, ◌∙◌, ℕ, suc, max, min, Bool, true, false, not, ◌&&◌, ◌||◌, List, [], ◌∷◌, cond, refl, sym, ap, arith, ◌⊎◌, inl, inr}
-use Rattle.std.proofs.lemmas.Bool.{cases_lt, le-ltb, lt-ltb, ltb-false, ltb-true}
+use Rattle.btree_range_set.proofs.Common.{◌≡◌, ◌≤◌, ◌<◌, ◌∙◌, ℕ, suc, max, Bool, true, false, not, ◌&&◌, ◌||◌, List, [], ◌∷◌, refl, sym, ap, arith, ◌⊎◌, inl, inr, cases_lt, le-ltb, lt-ltb, within-from, AreRuns, AreRunsFrom, has_number, is_within, ranges_meeting}
+use Rattle.std.proofs.Common.{min, cond}
+use Rattle.std.proofs.lemmas.Bool.{ltb-false, ltb-true}
 use Rattle.std.specs.List.{AllByRecursion, filter}
-use Rattle.btree_range_set.specs.CallerLaws.{has-meeting, within-from}
+use Rattle.btree_range_set.specs.CallerLaws.{has-meeting}
 use Rattle.btree_range_set.specs.Gaps.{AreGaps, gaps_from, is_some_range}
-use Rattle.btree_range_set.specs.Ranges.{AreRuns, AreRunsFrom, has_number, is_within, meets, ranges_meeting}
+use Rattle.btree_range_set.specs.Ranges.{meets}
 use Rattle.btree_range_set.proofs.RunLemmas.{above-not-within, below-not-within, none-below, weaken}
 
 -- ---- the ranges that have one of the numbers

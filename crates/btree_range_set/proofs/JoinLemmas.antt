@@ -1,20 +1,8 @@
 -- An insertion that joins ranges, step by step, and one that joins none.
-use Rattle.std.proofs.Common.{◌≡◌, ◌≤◌, ◌<◌, ◌∙◌, ℕ, suc, max, ◌||◌, List, length, set, slice_get, Some, sym, ap, subst, arith}
-use Rattle.std.proofs.lemmas.List.{length-set}
-use Rattle.std.proofs.lemmas.List.Edits.{length-remove}
-use Rattle.std.proofs.lemmas.Option.{same_Some, slice_get_within}
-use Rattle.std.specs.List.{insert, remove}
-use Rattle.std.specs.Ordering.{nat_cmp}
-use Rattle.btree_item.specs.Pairs.{KeyFits}
-use Rattle.btree_item.specs.Address.{Address}
-use Rattle.btree_laws.specs.TreeState.{TreeState, item_of, pairs_of}
-use Rattle.btree_find.specs.Answers.{IsFoundAt}
+use Rattle.btree_range_set.proofs.Common.{◌≡◌, ◌≤◌, ◌<◌, ◌∙◌, ℕ, suc, max, ◌||◌, List, length, set, slice_get, Some, sym, ap, subst, arith, length-set, length-remove, same_Some, slice_get_within, insert, remove, nat_cmp, KeyFits, Address, TreeState, item_of, pairs_of, IsFoundAt, HasPlace, IsNormalized, IsPrevious, InsertsAt, EndsBefore, StartsAfter, AreRuns, has_number, is_within}
 use Rattle.btree_find.specs.Fits.{ReplacesAt}
-use Rattle.btree_find.specs.Navigation.{HasPlace, IsNormalized, IsPrevious}
 use Rattle.btree_ext.specs.Exchange.{IsExchanged}
-use Rattle.btree_ext.specs.InsertAt.{InsertsAt}
-use Rattle.btree_range_set.specs.Places.{EndsBefore, StartsAfter, StartsBy}
-use Rattle.btree_range_set.specs.Ranges.{AreRuns, has_number, is_within}
+use Rattle.btree_range_set.specs.Places.{StartsBy}
 use Rattle.btree_range_set.specs.Steps.{CanJoin, Joins, TakesRange}
 use Rattle.btree_range_set.proofs.LimitLemmas.{grows-not, put-limit}
 use Rattle.btree_range_set.proofs.ListLemmas.{get-removed}

@@ -1,3 +1,4 @@
+pub mod Common
 pub mod ClearLemmas
 pub mod CutLemmas
 pub mod GapLemmas

@@ -1,13 +1,7 @@
 -- How many ranges there are: no more than before, or than there may be.
-use Rattle.std.proofs.Common.{◌≡◌, ◌≤◌, ◌∙◌, ℕ, length, ap, arith}
-use Rattle.std.specs.List.{insert}
-use Rattle.std.specs.Ordering.{nat_cmp}
+use Rattle.btree_range_set.proofs.Common.{◌≡◌, ◌≤◌, ◌∙◌, ℕ, length, ap, arith, insert, nat_cmp, Address, TreeState, pairs_of, HasPlace, InsertsAt, GrowsWithinLimit}
 use Rattle.std.proofs.lemmas.List.Edits.{length-insert}
-use Rattle.btree_item.specs.Address.{Address}
-use Rattle.btree_laws.specs.TreeState.{TreeState, pairs_of}
-use Rattle.btree_find.specs.Navigation.{HasPlace}
-use Rattle.btree_ext.specs.InsertAt.{InsertsAt}
-use Rattle.btree_range_set.specs.State.{GrowsWithinLimit, ranges_of}
+use Rattle.btree_range_set.specs.State.{ranges_of}
 
 -- a step that adds no range
 pub grows-not : (old new : TreeState ℕ ℕ) → length (pairs_of new) ≤ length (pairs_of old) → GrowsWithinLimit (ranges_of old) (ranges_of new)

@@ -1,6 +1,5 @@
 -- Lists that were edited at one place: what is at each place, and how long they are.
-use Rattle.std.proofs.Common.{◌≡◌, ◌<◌, ℕ, zero, suc, List, [], ◌∷◌, length, set, slice_get, Some, refl, ap, arith}
-use Rattle.std.specs.List.{insert, remove}
+use Rattle.btree_range_set.proofs.Common.{◌≡◌, ◌<◌, ℕ, zero, suc, List, [], ◌∷◌, length, set, slice_get, Some, refl, ap, arith, insert, remove}
 
 -- ---- places after a removal
 pub get-removed : {X : Type 0} (xs : List X) (p : ℕ) → slice_get (remove xs p) p ≡ slice_get xs (suc p)

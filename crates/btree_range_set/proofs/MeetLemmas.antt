@@ -1,16 +1,14 @@
 -- The ranges that have one of some numbers: those that start between two bounds.
-use Rattle.std.proofs.Common.{◌≡◌, ◌≤◌, ◌<◌, ◌∙◌, ℕ, zero, suc, max, min, Bool, true, false, not, ◌&&◌, List, [], ◌∷◌, cond, slice_get, Some, refl, sym, ap, subst, arith, ◌⊎◌, inl, inr, Ordering}
-use Rattle.std.proofs.lemmas.Bool.{and_left, cases_lt, cases_order, le-ltb, lt-ltb}
+use Rattle.btree_range_set.proofs.Common.{◌≡◌, ◌≤◌, ◌<◌, ◌∙◌, ℕ, zero, suc, max, Bool, true, false, not, ◌&&◌, List, [], ◌∷◌, slice_get, Some, refl, sym, ap, subst, arith, ◌⊎◌, inl, inr, cases_lt, le-ltb, lt-ltb, nat_cmp, same_Some, within-from, within-high, within-low, IsRangeAround, AreRuns, AreRunsFrom, has_number, ranges_meeting}
+use Rattle.std.proofs.Common.{min, cond, Ordering}
+use Rattle.std.proofs.lemmas.Bool.{and_left, cases_order}
 use Rattle.std.proofs.lemmas.Cmp.{ranked}
 use Rattle.std.specs.BTreeMap.Range.{entries_between, range_contains}
 use Rattle.std.specs.List.{filter}
-use Rattle.std.specs.Ordering.{is_le, nat_cmp}
+use Rattle.std.specs.Ordering.{is_le}
 use Rattle.std.specs.declared.cmp.Ordering.TheVariants.{Equal, Greater, Less}
 use Rattle.std.specs.declared.ops.Bound.TheVariants.{Included, Excluded}
-use Rattle.std.proofs.lemmas.Option.{same_Some}
-use Rattle.btree_range_set.specs.CallerLaws.{within-from, within-high, within-low}
-use Rattle.btree_range_set.specs.Places.{IsRangeAround}
-use Rattle.btree_range_set.specs.Ranges.{AreRuns, AreRunsFrom, has_number, meets, ranges_meeting}
+use Rattle.btree_range_set.specs.Ranges.{meets}
 use Rattle.btree_range_set.proofs.RunLemmas.{has-here, run-at}
 
 -- ---- comparisons of numbers

@@ -1,20 +1,12 @@
 -- From what the calls of the map say of addresses to places in the list of ranges.
-use Rattle.std.proofs.Common.{◌≡◌, ◌≤◌, ◌<◌, ◌∙◌, ℕ, zero, suc, false, List, length, slice_get, Option, Some, None, Result, Ok, Err, refl, sym, ap, subst, arith}
+use Rattle.btree_range_set.proofs.Common.{◌≡◌, ◌≤◌, ◌<◌, ◌∙◌, ℕ, zero, suc, false, List, length, slice_get, Option, Some, None, refl, sym, ap, subst, arith, nat_cmp, lt-ltb, same_Some, slice_get_within, KeyFits, Address, TreeState, item_of, pairs_of, IsFoundAt, HasPlace, IsNormalized, IsPrevious, within-from, EndsBefore, IsRangeAround, StartsAfter, AreRuns, has_number}
+use Rattle.std.proofs.Common.{Result, Ok, Err}
 use Rattle.std.specs.declared.cmp.Ordering.TheVariants.{Equal, Less}
-use Rattle.std.specs.Ordering.{nat_cmp}
 use Rattle.std.specs.Prelude.{IfNone, IfSome, OnErr, is_some}
-use Rattle.std.proofs.lemmas.Bool.{lt-ltb}
 use Rattle.std.proofs.lemmas.Cmp.{ranked}
-use Rattle.std.proofs.lemmas.Option.{same_Some, slice_get_within}
-use Rattle.btree_item.specs.Pairs.{KeyFits}
-use Rattle.btree_item.specs.Address.{Address}
-use Rattle.btree_laws.specs.TreeState.{TreeState, item_of, pairs_of}
-use Rattle.btree_find.specs.Answers.{IsFoundAt}
 use Rattle.btree_find.specs.CallerLaws.{pair-there}
-use Rattle.btree_find.specs.Navigation.{HasPlace, IsItemAddress, IsItemAt, IsItemBefore, IsNormalized, IsPrevious}
-use Rattle.btree_range_set.specs.CallerLaws.{within-from}
-use Rattle.btree_range_set.specs.Places.{EndsBefore, IsRangeAround, StartsAfter}
-use Rattle.btree_range_set.specs.Ranges.{AreRuns, CutsOne, has_number}
+use Rattle.btree_find.specs.Navigation.{IsItemAddress, IsItemAt, IsItemBefore}
+use Rattle.btree_range_set.specs.Ranges.{CutsOne}
 use Rattle.btree_range_set.proofs.RunLemmas.{has-here, has-none, run-at}
 
 pub less-from : (x y : ℕ) → x < y → nat_cmp x y ≡ Less

@@ -1,11 +1,7 @@
 -- The range around a number, and the first and the last one.
-use Rattle.std.proofs.Common.{◌≡◌, ◌≤◌, ◌<◌, ◌∙◌, ◌-◌, ℕ, suc, true, false, List, [], ◌∷◌, length, slice_get, Option, None, Some, IfSome, refl, ap, arith, ◌⊎◌, inl, inr}
-use Rattle.std.proofs.lemmas.Bool.{cases_Bool, cases_lt}
-use Rattle.std.proofs.lemmas.Option.{same_Some}
+use Rattle.btree_range_set.proofs.Common.{◌≡◌, ◌≤◌, ◌<◌, ◌∙◌, ℕ, suc, true, false, List, [], ◌∷◌, length, slice_get, Option, None, Some, refl, ap, arith, ◌⊎◌, inl, inr, cases_Bool, cases_lt, same_Some, within-high, IsRangeAround, AreRuns, AreRunsFrom, IsMaximalRun, has_number, is_within}
+use Rattle.std.proofs.Common.{◌-◌, IfSome}
 use Rattle.btree_map.specs.Lists.{last_of}
-use Rattle.btree_range_set.specs.CallerLaws.{within-high}
-use Rattle.btree_range_set.specs.Places.{IsRangeAround}
-use Rattle.btree_range_set.specs.Ranges.{AreRuns, AreRunsFrom, IsMaximalRun, has_number, is_within}
 use Rattle.btree_range_set.proofs.RangeLaws.{maximal, starts-here}
 use Rattle.btree_range_set.proofs.RunLemmas.{none-below, range-there}
 

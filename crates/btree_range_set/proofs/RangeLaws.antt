@@ -1,14 +1,13 @@
 -- What callers conclude: after any list of granted calls the set has the numbers that the calls make of those before
 -- (`made-by-calls`); its ranges are exactly its maximal runs (`maximal`, `run-listed`); there is one list of runs for a set
 -- of numbers (`same-runs`); and `==` is equality of the numbers (`equal-numbers`).
-use Rattle.std.proofs.Common.{◌≡◌, ◌≤◌, ◌<◌, ◌∙◌, ℕ, zero, suc, Bool, true, false, List, [], ◌∷◌, slice_get, Some, refl, sym, ap, subst, arith, ◌⊎◌, inl, inr, Decides}
-use Rattle.std.proofs.lemmas.Bool.{cases_Bool, cases_lt, cases_order, or_from, or_left}
-use Rattle.std.proofs.lemmas.Option.{same_Some, slice_get_within}
-use Rattle.btree_range_set.specs.CallerLaws.{ranges-equal, within-from, within-high, within-low}
+use Rattle.btree_range_set.proofs.Common.{◌≡◌, ◌≤◌, ◌<◌, ◌∙◌, ℕ, zero, suc, Bool, true, false, List, [], ◌∷◌, slice_get, Some, refl, sym, ap, subst, arith, ◌⊎◌, inl, inr, cases_Bool, cases_lt, same_Some, slice_get_within, within-from, within-high, within-low, AreRuns, AreRunsFrom, IsMaximalRun, has_number, is_within}
+use Rattle.std.proofs.Common.{Decides}
+use Rattle.std.proofs.lemmas.Bool.{cases_order, or_from, or_left}
+use Rattle.btree_range_set.specs.CallerLaws.{ranges-equal}
 use Rattle.btree_range_set.specs.Calls.{AreGranted, Call, IsGranted, after_call, after_calls}
 use Rattle.btree_range_set.specs.Calls.Call.{Insert, Remove}
 use Rattle.btree_range_set.specs.SameRanges.{ranges_eq}
-use Rattle.btree_range_set.specs.Ranges.{AreRuns, AreRunsFrom, IsMaximalRun, has_number, is_within}
 use Rattle.btree_range_set.proofs.RunLemmas.{above-not-within, has-here, has-none, next-apart, none-below, run-at}
 
 -- ---- lists of calls

@@ -1,9 +1,8 @@
 -- Lists of ranges that are edited at one place: the numbers in them, and that they still are runs.
-use Rattle.std.proofs.Common.{◌≡◌, ◌≤◌, ◌<◌, ◌∙◌, ℕ, zero, suc, Bool, true, false, ◌||◌, nat_le, nat_lt, List, [], ◌∷◌, length, set, slice_get, Some, refl, sym, ap, subst, arith, ◌⊎◌, inl, inr}
-use Rattle.std.proofs.lemmas.Bool.{lt-leb, le-ltb, and_left, and_right}
-use Rattle.std.specs.List.{AllByRecursion, insert, remove}
-use Rattle.btree_range_set.specs.Places.{EndsBefore, StartsAfter}
-use Rattle.btree_range_set.specs.Ranges.{AreRunsFrom, has_number, is_within}
+use Rattle.btree_range_set.proofs.Common.{◌≡◌, ◌≤◌, ◌<◌, ◌∙◌, ℕ, zero, suc, Bool, true, false, ◌||◌, List, [], ◌∷◌, length, set, slice_get, Some, refl, sym, ap, subst, arith, ◌⊎◌, inl, inr, le-ltb, insert, remove, EndsBefore, StartsAfter, AreRunsFrom, has_number, is_within}
+use Rattle.std.proofs.Common.{nat_le, nat_lt}
+use Rattle.std.proofs.lemmas.Bool.{lt-leb, and_left, and_right}
+use Rattle.std.specs.List.{AllByRecursion}
 
 -- ---- a number outside of a range
 pub below-not-within : (r : ℕ × ℕ) (n : ℕ) → n < r.0 → is_within r n ≡ false

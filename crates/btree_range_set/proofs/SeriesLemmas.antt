@@ -1,13 +1,11 @@
 -- Series of insertions and removals, by one range more.
-use Rattle.std.proofs.Common.{◌≡◌, ◌∙◌, ◌<◌, ◌≤◌, ℕ, Bool, true, false, not, ◌&&◌, ◌||◌, List, [], ◌∷◌, length, Option, Some, refl, sym, ap, subst, arith, inl, inr}
-use Rattle.std.proofs.lemmas.Bool.{cases_lt}
+use Rattle.btree_range_set.proofs.Common.{◌≡◌, ◌∙◌, ◌<◌, ◌≤◌, ℕ, Bool, true, false, not, ◌&&◌, ◌||◌, List, [], ◌∷◌, length, Option, Some, refl, sym, ap, subst, arith, inl, inr, cases_lt, has_number, is_within, GoesThrough, GrowsWithinLimit, IsDifferenceWith, IsUnionWith}
 use Rattle.btree_item.specs.declared.refused.Cause.{Cause}
 use Rattle.btree_item.specs.declared.refused.Cause.TheVariants.{Count, Store}
 use Rattle.btree_laws.specs.TreeState.{refused_once}
-use Rattle.btree_range_set.specs.Ranges.{IsDifference, IsUnion, has_number, is_within}
-use Rattle.btree_range_set.specs.Series.{CountsLastRefusal, GoesThrough}
-use Rattle.btree_range_set.specs.State.{GrowsWithinLimit, IsRefused, RangeState}
-use Rattle.btree_range_set.specs.TwoSets.{IsDifferenceWith, IsUnionWith}
+use Rattle.btree_range_set.specs.Ranges.{IsDifference, IsUnion}
+use Rattle.btree_range_set.specs.Series.{CountsLastRefusal}
+use Rattle.btree_range_set.specs.State.{IsRefused, RangeState}
 
 -- ---- the numbers
 or-assoc : (a b c : Bool) → ((a || b) || c) ≡ (a || (b || c))

@@ -1,14 +1,14 @@
 -- A series whose ranges are those of another set, or its gaps.
-use Rattle.std.proofs.Common.{◌≡◌, ◌≤◌, ◌<◌, ◌∙◌, ℕ, suc, Bool, true, false, not, ◌&&◌, ◌||◌, nat_le, nat_lt, List, [], ◌∷◌, ◌++◌, length, slice_get, Option, None, Some, Result, Ok, Err, IfErr, refl, sym, ap, subst, arith, ◌⊎◌, inl, inr}
-use Rattle.std.proofs.lemmas.Bool.{and_parts, cases_Bool, cases_lt, le-leb, le-ltb, lt-leb, lt-ltb, or_from}
+use Rattle.btree_range_set.proofs.Common.{◌≡◌, ◌≤◌, ◌<◌, ◌∙◌, ℕ, suc, Bool, true, false, not, ◌&&◌, ◌||◌, List, [], ◌∷◌, length, slice_get, Option, None, Some, refl, sym, ap, subst, arith, ◌⊎◌, inl, inr, cases_Bool, cases_lt, le-ltb, lt-ltb, within-from, within-high, AreRuns, AreRunsFrom, IsMaximalRun, has_number, is_within, IsDifferenceWith, IsUnionWith}
+use Rattle.std.proofs.Common.{nat_le, nat_lt, ◌++◌, Result, Ok, Err, IfErr}
+use Rattle.std.proofs.lemmas.Bool.{and_parts, le-leb, lt-leb, or_from}
 use Rattle.std.specs.Iterator.{YieldsFirst, YieldsThen}
 use Rattle.btree_item.specs.declared.refused.Refused.{Refused}
-use Rattle.btree_range_set.specs.CallerLaws.{within-from, within-high}
 use Rattle.btree_range_set.specs.Gaps.{AreGaps}
-use Rattle.btree_range_set.specs.Ranges.{AreRuns, AreRunsFrom, CutsOne, IsGap, IsMaximalRun, OverlapsNone, has_number, is_within}
+use Rattle.btree_range_set.specs.Ranges.{CutsOne, IsGap, OverlapsNone}
 use Rattle.btree_range_set.specs.Series.{AddsRanges, AddsRangesUntil, RemovesRanges, RemovesRangesUntil}
 use Rattle.btree_range_set.specs.State.{RangeState}
-use Rattle.btree_range_set.specs.TwoSets.{IsDifferenceBelow, IsDifferenceWith, IsIntersectionBelow, IsIntersectionWith, IsUnionBelow, IsUnionWith}
+use Rattle.btree_range_set.specs.TwoSets.{IsDifferenceBelow, IsIntersectionBelow, IsIntersectionWith, IsUnionBelow}
 use Rattle.btree_range_set.proofs.RangeLaws.{maximal}
 use Rattle.btree_range_set.proofs.RunLemmas.{above-not-within, has-here, none-below}
 

@@ -1,13 +1,9 @@
 -- Nodes that are split alike: they need the same nodes, and have the same levels above them.
-use Rattle.std.proofs.Common.{◌≡◌, ◌<◌, ◌≤◌, ◌∙◌, ℕ, zero, suc, inl, inr, if◌then◌else◌, Bool, Option, Some, None, refl, sym, ap, arith, option_map}
-use Rattle.std.specs.Prelude.{nat_lt}
+use Rattle.btree_raw.proofs.Common.{◌≡◌, ◌<◌, ◌≤◌, ◌∙◌, ℕ, zero, suc, inl, inr, if◌then◌else◌, Bool, Option, Some, None, refl, sym, ap, arith, option_map, nat_lt, NodeMap, View, most_of, parent_of, size_of, levels_above, split_need, times_used, less-no, less-or, used-mapped, split_key}
 use Rattle.std.proofs.lemmas.Option.{same_Some}
-use Rattle.btree_view.specs.View.{NodeMap, View, most_of, parent_of, size_of}
-use Rattle.btree_laws.specs.Need.{levels_above, levels_over, levels_up, need_of_split, split_need, split_need_in}
-use Rattle.btree_laws.specs.WellFormed.{times_used}
-use Rattle.btree_laws.proofs.Paths.Used.{less-no, less-yes}
-use Rattle.btree_laws.proofs.Trees.Numbers.{less-or, used-mapped}
-use Rattle.btree_raw.specs.Steps.{AreSplitAlike, split_key}
+use Rattle.btree_laws.specs.Need.{levels_over, levels_up, need_of_split, split_need_in}
+use Rattle.btree_laws.proofs.Paths.Used.{less-yes}
+use Rattle.btree_raw.specs.Steps.{AreSplitAlike}
 
 -- one comparison stands for the other
 pub low-alike : (m n p q : ℕ) → nat_lt m n ≡ nat_lt p q → p < q → m < n

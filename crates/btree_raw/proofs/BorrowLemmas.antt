@@ -1,28 +1,14 @@
 -- Two siblings, one of which underflows: what the steps between them require, and what holds afterwards.
-use Rattle.std.proofs.Common.{◌≡◌, ◌≢◌, ℕ, suc, ◌+◌, ◌<◌, ◌≤◌, ◌^◌, ◌-◌, inl, inr, Option, Some, None, IfSome, IsSome, List, sym, ap, subst, ◌∙◌, option_map, slice_get, arith, length}
+use Rattle.btree_raw.proofs.Common.{◌≡◌, ◌≢◌, ℕ, suc, ◌+◌, ◌<◌, ◌≤◌, ◌^◌, ◌-◌, inl, inr, Option, Some, None, IfSome, IsSome, List, sym, ap, subst, ◌∙◌, option_map, slice_get, arith, length, Siblings, Address, with_parent, NodeMap, View, leaf, internal, children_in, children_of, most_of, size_of, parent_of, IsRepaired, MayUnderflowAt, as_list, one, times_listed, first_in, size_in, times_used, one-other, one-self, same-node, same-or, used-mapped, used-one, zero-or, MergesSiblings, RotatesSiblingsLeft, RotatesSiblingsRight, AreAdjacent, FitTogether, Underflows, PassesUnderflowUp, EndsUnderflow, IsFollowed, HasCount, levels_above}
 use Rattle.btree_raw.specs.Siblings.{between}
-use Rattle.btree_raw.specs.declared.moved.siblings.Siblings.{Siblings}
-use Rattle.btree_item.specs.Address.{Address}
-use Rattle.btree_view.specs.Edits.{with_parent}
-use Rattle.btree_view.specs.View.{NodeMap, View, leaf, internal, children_in, children_of, most_of, size_of, parent_of}
-use Rattle.btree_laws.specs.Focus.Overflow.{IsRepaired}
-use Rattle.btree_laws.specs.Focus.Underflow.{MayUnderflowAt}
-use Rattle.btree_laws.specs.Lists.{as_list, one, times_listed}
 use Rattle.btree_laws.specs.SiblingSteps.{Merges, Writes}
-use Rattle.btree_laws.specs.Moved.{first_in, moved_by_merge, moved_by_rotate_left, moved_by_rotate_right}
-use Rattle.btree_laws.specs.UnderflowFix.{size_in}
-use Rattle.btree_laws.specs.WellFormed.{times_used}
+use Rattle.btree_laws.specs.Moved.{moved_by_merge, moved_by_rotate_left, moved_by_rotate_right}
 use Rattle.btree_laws.proofs.Places.Backs.{merge-back, rotate-left-back, rotate-right-back}
-use Rattle.btree_laws.proofs.Paths.Frames.{one-other, one-self}
-use Rattle.btree_laws.proofs.Trees.Numbers.{same-node, same-or, used-mapped, used-one, zero-or}
-use Rattle.btree_raw.specs.NodeSteps.{AreSiblings, MergesSiblings, CanMerge, CanRotateLeft, CanRotateRight, RotatesSiblingsLeft, RotatesSiblingsRight}
-use Rattle.btree_raw.specs.Underflow.{AreAdjacent, FitTogether, Underflows, PassesUnderflowUp, EndsUnderflow, IsFollowed}
-use Rattle.btree_raw.specs.Steps.{HasCount}
+use Rattle.btree_raw.specs.NodeSteps.{AreSiblings, CanMerge, CanRotateLeft, CanRotateRight}
 use Rattle.btree_raw.proofs.UpwardLemmas.{back-some, some-back}
 use Rattle.btree_raw.proofs.StepLemmas.{size-at}
 use Rattle.btree_laws.proofs.Underflow.Adjacent.{AdjacentSteps}
 use Rattle.btree_laws.proofs.Underflow.Upward.{underflow-node, to-over}
-use Rattle.btree_laws.specs.Need.{levels_above}
 
 -- the node at which an underflow fix that follows an address is
 module _ {A : Type 0} (node_at : NodeMap A) (id : ℕ) (a : Address) (s : IsFollowed node_at id a) where

@@ -1,17 +1,9 @@
 -- Claims one after another, which are freed from the last one on.
-use Rattle.std.proofs.Common.{◌≡◌, ◌≢◌, ℕ, zero, suc, ◌<◌, ◌^◌, ◌-◌, ◌++◌, ◌∷◌, [], inl, inr, All, List, Some, None, IsSome, refl, sym, ap, subst, ◌∙◌, option_map, arith}
+use Rattle.btree_raw.proofs.Common.{◌≡◌, ◌≢◌, ℕ, zero, suc, ◌<◌, ◌^◌, ◌-◌, ◌++◌, ◌∷◌, [], inl, inr, List, Some, None, IsSome, refl, sym, ap, subst, ◌∙◌, option_map, arith, Content, get-insert_other, EMPTY, view_of, Node, one, Claims, views, times_used, same-or, one-other, one-self}
+use Rattle.std.proofs.Common.{All}
 use Rattle.std.specs.FinMap as map
-use Rattle.btree_store.specs.Content.{Content}
-use Rattle.btree_store.specs.ContentLaws.{get-insert_other, get-insert_same, remove-insert}
-use Rattle.btree_raw.specs.Claimed.{EMPTY, with_claims, AreClaims, IsClaimed}
-use Rattle.btree_node.specs.Node.{view_of}
-use Rattle.btree_node.specs.declared.node.Node.{Node}
-use Rattle.btree_laws.specs.Lists.{one}
-use Rattle.btree_laws.specs.Step.{Claims}
-use Rattle.btree_laws.specs.TreeState.{views}
-use Rattle.btree_laws.specs.WellFormed.{times_used}
-use Rattle.btree_laws.proofs.Trees.Numbers.{same-or}
-use Rattle.btree_laws.proofs.Paths.Frames.{one-other, one-self}
+use Rattle.btree_store.specs.ContentLaws.{get-insert_same, remove-insert}
+use Rattle.btree_raw.specs.Claimed.{with_claims, AreClaims, IsClaimed}
 
 module _ {N : Type 0} (empty : N) where
   pub with-one_more : (nodes : Content N) (ids : List ℕ) (id : ℕ) → with_claims empty nodes (ids ++ id ∷ []) ≡ map.insert (with_claims empty nodes ids) id empty

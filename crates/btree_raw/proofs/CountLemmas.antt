@@ -1,16 +1,7 @@
 -- The count of the nodes that splits need, step by step.
-use Rattle.std.proofs.Common.{◌≡◌, ◌+◌, ◌<◌, ◌≤◌, ◌∙◌, ℕ, Option, Bool, Some, None, IsSome, sym, ap, arith, option_map}
-use Rattle.std.specs.Prelude.{nat_lt}
+use Rattle.btree_raw.proofs.Common.{◌≡◌, ◌+◌, ◌<◌, ◌≤◌, ◌∙◌, ℕ, Option, Bool, Some, None, IsSome, sym, ap, arith, option_map, nat_lt, Content, Node, View, most_of, parent_of, size_of, IsCountingUpward, split_need, levels_above, views, used-view, IsCountingSplits, split_key}
 use Rattle.std.specs.FinMap as map
-use Rattle.btree_store.specs.Content.{Content}
-use Rattle.btree_node.specs.declared.node.Node.{Node}
-use Rattle.btree_view.specs.View.{View, most_of, parent_of, size_of}
-use Rattle.btree_laws.specs.Focus.Need.{IsCountingUpward}
-use Rattle.btree_laws.specs.Need.{split_need, levels_above}
-use Rattle.btree_laws.specs.TreeState.{views}
 use Rattle.btree_laws.proofs.Splits.Need.{upward-done, upward-root, upward-up, upward-used}
-use Rattle.btree_laws.proofs.Trees.Stores.{used-view}
-use Rattle.btree_raw.specs.Steps.{IsCountingSplits, split_key}
 use Rattle.btree_raw.proofs.AlikeLemmas.{KeyAt, full-alike, key-at, levels-alike, low-alike, need-alike, used-alike}
 
 module _ {K V : Type 0} (nodes : Content (Node K V)) (most start id counted : ℕ) (s : IsCountingSplits (views nodes) most start id counted) where

@@ -1,17 +1,10 @@
 -- A node that is written, and then cut if it has an item too many.
-use Rattle.std.proofs.Common.{◌≡◌, ◌∙◌, ◌∷◌, ◌++◌, [], ℕ, ◌≤◌, List, Option, Some, ap, option_map, refl, subst, sym}
+use Rattle.btree_raw.proofs.Common.{◌≡◌, ◌∙◌, ◌∷◌, ◌++◌, [], ℕ, ◌≤◌, List, Option, Some, ap, option_map, refl, subst, sym, Content, Node, view_of, IsSplit, NodeMap, View, most_of, parent_of, size_of, Splits, views, writes_node, CutsAtMedian, HasCount, Overflows}
 use Rattle.std.specs.FinMap as map
-use Rattle.btree_store.specs.Content.{Content}
 use Rattle.btree_store.specs.ContentLaws.{insert-same}
-use Rattle.btree_node.specs.declared.node.Node.{Node}
-use Rattle.btree_node.specs.Node.{view_of}
-use Rattle.btree_view.specs.Edits.{IsOverflowing, IsSplit}
-use Rattle.btree_view.specs.View.{NodeMap, View, most_of, parent_of, size_of}
-use Rattle.btree_laws.specs.Step.{Splits}
-use Rattle.btree_laws.specs.TreeState.{views}
-use Rattle.btree_laws.proofs.Trees.Stores.{writes_node}
+use Rattle.btree_view.specs.Edits.{IsOverflowing}
 use Rattle.btree_raw.specs.OverflowSplit.{CutsNode, StaysWhole}
-use Rattle.btree_raw.specs.Steps.{CanCut, CutsAtMedian, HasCount, LeavesPart, Overflows}
+use Rattle.btree_raw.specs.Steps.{CanCut, LeavesPart}
 use Rattle.btree_raw.proofs.StepLemmas.{halves}
 
 module _ {K V : Type 0} (nodes : Content (Node K V)) (id : ℕ) (node : Node K V) where

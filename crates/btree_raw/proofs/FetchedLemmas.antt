@@ -1,13 +1,6 @@
 -- What a node has that was fetched, or just written: how many items, and which parent.
-use Rattle.std.proofs.Common.{◌≡◌, ◌∙◌, ℕ, Option, Some, ap, option_map, refl, sym}
+use Rattle.btree_raw.proofs.Common.{◌≡◌, ◌∙◌, ℕ, Option, Some, ap, option_map, refl, sym, Content, Node, view_of, View, NodeMap, parent_of, size_of, views, writes_node, HasCount, HasParent}
 use Rattle.std.specs.FinMap as map
-use Rattle.btree_store.specs.Content.{Content}
-use Rattle.btree_node.specs.declared.node.Node.{Node}
-use Rattle.btree_node.specs.Node.{view_of}
-use Rattle.btree_view.specs.View.{View, NodeMap, parent_of, size_of}
-use Rattle.btree_laws.specs.TreeState.{views}
-use Rattle.btree_laws.proofs.Trees.Stores.{writes_node}
-use Rattle.btree_raw.specs.Steps.{HasCount, HasParent}
 
 module _ {K V : Type 0} (nodes : Content (Node K V)) (id : ℕ) (node : Node K V) where
   module _ (at : map.get nodes id ≡ Some node) where

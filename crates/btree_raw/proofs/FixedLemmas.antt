@@ -1,26 +1,15 @@
 -- An underflow fix upward: its state at a node, and its end at the root.
-use Rattle.std.proofs.Common.{◌≡◌, ◌≢◌, ℕ, suc, ◌+◌, ◌<◌, ◌≤◌, inl, inr, List, [], ◌∷◌, ◌++◌, length, Option, Some, None, IfSome, IsSome, IsTrue, false, refl, sym, ap, subst, ◌∙◌, option_map, arith, length-append}
-use Rattle.btree_item.specs.Address.{Address}
-use Rattle.btree_view.specs.Edits.{is_internal, with_parent}
-use Rattle.btree_view.specs.View.{NodeMap, View, leaf, internal, children_of, parent_of, size_of}
-use Rattle.btree_laws.specs.Focus.Overflow.{IsRepaired}
+use Rattle.btree_raw.proofs.Common.{◌≡◌, ◌≢◌, ℕ, suc, ◌+◌, ◌<◌, ◌≤◌, inl, inr, List, [], ◌∷◌, ◌++◌, length, Option, Some, None, IfSome, IsSome, IsTrue, false, refl, sym, ap, subst, ◌∙◌, option_map, arith, length-append, Address, is_internal, with_parent, NodeMap, View, leaf, internal, children_of, parent_of, size_of, IsRepaired, Borrows, MergesNode, size_in, first_in, levels_above, times_listed, MayUnderflowAt, times_used, one-other, one-self, listed-append, same-or, used-mapped, used-one, used-there, IsFit, AreFixed, IsFollowed, PassesUnderflowUp, EndsUnderflow, HasCount}
 use Rattle.btree_laws.specs.SiblingSteps.{ShrinksRoot}
-use Rattle.btree_laws.specs.UnderflowFix.{Borrows, IsUnderflowFixed, UnderflowsUnder, MergesNode, borrows, empties, merges, shrinks_root, rests, size_in}
-use Rattle.btree_laws.specs.Moved.{first_in, moved_by_emptying, moved_by_shrink_root}
-use Rattle.btree_laws.specs.Need.{levels_above}
-use Rattle.btree_laws.specs.Lists.{times_listed}
-use Rattle.btree_laws.specs.Focus.Underflow.{MayUnderflowAt}
+use Rattle.btree_laws.specs.UnderflowFix.{IsUnderflowFixed, UnderflowsUnder, borrows, empties, merges, shrinks_root, rests}
+use Rattle.btree_laws.specs.Moved.{moved_by_emptying, moved_by_shrink_root}
 use Rattle.btree_laws.specs.Step.{RemovesNode}
-use Rattle.btree_laws.specs.WellFormed.{least_of, times_used}
-use Rattle.btree_laws.proofs.Paths.Frames.{one-other, one-self}
+use Rattle.btree_laws.specs.WellFormed.{least_of}
 use Rattle.btree_laws.proofs.Underflow.Order.{underflow-apart, underflow-root}
-use Rattle.btree_laws.proofs.Trees.Numbers.{listed-append, same-or, used-mapped, used-one, used-there}
 use Rattle.btree_laws.proofs.Underflow.Upward.{underflow-done, underflow-done-root, underflow-node, underflow-used, to-child, to-nothing}
 use Rattle.btree_laws.proofs.Trees.Sizes.{least-low, least-other, least-root}
 use Rattle.btree_raw.specs.NodeSteps.{CanShrinkRoot}
-use Rattle.btree_raw.specs.Rebalance.{IsFit}
-use Rattle.btree_raw.specs.Underflow.{AreFixed, IsFollowed, IsFixing, PassesUnderflowUp, EndsUnderflow, IsRepairedOrEmpty}
-use Rattle.btree_raw.specs.Steps.{HasCount}
+use Rattle.btree_raw.specs.Underflow.{IsFixing, IsRepairedOrEmpty}
 use Rattle.btree_raw.proofs.BorrowLemmas.{followed-node, followed-under}
 use Rattle.btree_raw.proofs.OffsetLemmas.{underflow-low}
 use Rattle.btree_raw.proofs.StepLemmas.{size-at}

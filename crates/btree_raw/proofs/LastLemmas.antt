@@ -1,33 +1,23 @@
 -- The walk down to the rightmost leaf under a node, and the last item taken there.
-use Rattle.std.proofs.Common.{◌≡◌, ◌∙◌, ◌-◌, ◌<◌, ◌^◌, ℕ, suc, inl, List, length, Option, Some, None, refl, sym, ap, subst, arith, option_map, slice_get}
-use Rattle.std.proofs.lemmas.List.{length-map}
-use Rattle.std.specs.Cmp.{IsTotalOrder}
+use Rattle.btree_raw.proofs.Common.{◌≡◌, ◌∙◌, ◌-◌, ◌<◌, ◌^◌, ℕ, suc, inl, List, length, Option, Some, None, refl, sym, ap, subst, arith, option_map, slice_get, length-map, IsTotalOrder, remove, Ordering, Node, view_of, View, leaf, internal, children_in, children_of, item_in, size_of, IsPlace, WritesNode, TreeState, IsUsed, node_map, pairs_of, IsOffByOne, IsWellFormed, is-off, writes_node, with_node}
 use Rattle.std.specs.FinMap as finite
-use Rattle.std.specs.List.{remove}
-use Rattle.std.specs.declared.cmp.Ordering.{Ordering}
-use Rattle.btree_node.specs.declared.node.Node.{Node}
-use Rattle.btree_node.specs.Node.{view_of}
 use Rattle.btree_store.specs.ContentLaws.{insert-same}
 use Rattle.btree_view.specs.Edits.{without_last}
-use Rattle.btree_view.specs.View.{View, leaf, internal, children_in, children_of, item_in, last_child_of, last_item_of, size_of}
+use Rattle.btree_view.specs.View.{last_child_of, last_item_of}
 use Rattle.btree_view.proofs.RemovalLemmas.{leaf-from_no_child}
 use Rattle.btree_laws.specs.Addresses.{last_child, last_leaf}
 use Rattle.btree_laws.specs.Focus.Positions.{address_at}
 use Rattle.btree_laws.specs.Focus.Search.{levels_below}
-use Rattle.btree_laws.specs.Place.{IsPlace}
-use Rattle.btree_laws.specs.Step.{WritesNode}
-use Rattle.btree_laws.specs.TreeState.{TreeState, IsBTreeButLength, IsPlaceIn, IsUsed, node_map, pairs_of}
+use Rattle.btree_laws.specs.TreeState.{IsBTreeButLength, IsPlaceIn}
 use Rattle.btree_laws.proofs.AddressLists.LeafEnds.{last-child-at, last-leaf-down, last-leaf-self}
 use Rattle.btree_laws.proofs.Places.ChildPlaces.{child-places, down-to-end}
-use Rattle.btree_laws.specs.WellFormed.{IsOffByOne, IsSized, IsWellFormed}
+use Rattle.btree_laws.specs.WellFormed.{IsSized}
 use Rattle.btree_laws.proofs.Places.OfTree.{positions-addressed, valid-on}
 use Rattle.btree_laws.proofs.Places.Words.{item-within}
 use Rattle.btree_laws.proofs.Removal.FromTree.{take-off}
 use Rattle.btree_laws.proofs.Trees.Density.{height-low}
-use Rattle.btree_laws.proofs.Trees.States.{is-off, pairs-off}
-use Rattle.btree_laws.proofs.Trees.Stores.{writes_node}
+use Rattle.btree_laws.proofs.Trees.States.{pairs-off}
 use Rattle.btree_raw.specs.LastItem.{EndsInLeaf, LosesItem, TakesLast}
-use Rattle.btree_raw.specs.Raw.{with_node}
 use Rattle.btree_raw.proofs.PlacedLemmas.{in-state, in-tree, leaf-without, placed, root-there, some-items, used-of, well}
 use Rattle.btree_raw.proofs.StateLemmas.{same-root}
 

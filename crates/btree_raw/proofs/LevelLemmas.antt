@@ -1,11 +1,7 @@
 -- How many pairs and levels a tree that is off by one at a node has.
-use Rattle.std.proofs.Common.{◌+◌, ◌≤◌, if◌then◌else◌, Bool, true, false, ℕ, List, arith}
-use Rattle.std.specs.Prelude.{nat_lt}
-use Rattle.std.specs.declared.cmp.Ordering.{Ordering}
-use Rattle.btree_view.specs.View.{NodeMap}
-use Rattle.btree_laws.specs.Focus.Need.{IsCountingUpward, path_need}
-use Rattle.btree_laws.specs.Focus.Subtree.{count_at, most_at}
-use Rattle.btree_laws.specs.WellFormed.{IsNearlySized, IsOffByOne}
+use Rattle.btree_raw.proofs.Common.{◌+◌, ◌≤◌, if◌then◌else◌, Bool, true, false, ℕ, List, arith, nat_lt, Ordering, NodeMap, IsCountingUpward, count_at, most_at, IsOffByOne}
+use Rattle.btree_laws.specs.Focus.Need.{path_need}
+use Rattle.btree_laws.specs.WellFormed.{IsNearlySized}
 use Rattle.btree_laws.proofs.Paths.Levels.{levels-rooted}
 use Rattle.btree_raw.proofs.NeedLemmas.{path_need-few}
 

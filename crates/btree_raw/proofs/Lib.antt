@@ -1,3 +1,4 @@
+pub mod Common
 pub mod ParentLemmas
 pub mod ClaimLemmas
 pub mod UpwardLemmas

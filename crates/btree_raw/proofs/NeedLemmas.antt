@@ -1,28 +1,21 @@
 -- The count of the nodes that an insertion needs, step by step.
-use Rattle.std.proofs.Common.{◌≡◌, ◌↔◌, IsTrue, true, false, ℕ, zero, suc, ◌+◌, ◌<◌, ◌≤◌, ◌^◌, inl, inr, List, [], ◌∷◌, Option, Some, None, length, length-append, refl, sym, ap, subst, ◌∙◌, option_map, arith}
+use Rattle.btree_raw.proofs.Common.{◌≡◌, ◌↔◌, IsTrue, true, false, ℕ, zero, suc, ◌+◌, ◌<◌, ◌≤◌, ◌^◌, inl, inr, List, [], ◌∷◌, Option, Some, None, length, length-append, refl, sym, ap, subst, ◌∙◌, option_map, arith, Ordering, Node, view_of, NodeMap, most_of, parent_of, size_of, IsCountingUpward, need, split_need, count_at, most_at, TreeState, IsUsed, node_map, nodes_for_splits, pairs_of, times_used, height_held, less-no, IsCountingSplits, less-or}
 use Rattle.std.proofs.Math.Nat.{pow-le-pow_right}
 use Rattle.std.specs.FinMap as map
-use Rattle.std.specs.declared.cmp.Ordering.{Ordering}
-use Rattle.btree_node.specs.declared.node.Node.{Node}
-use Rattle.btree_node.specs.Node.{view_of}
-use Rattle.btree_view.specs.View.{NodeMap, most_of, parent_of, size_of}
-use Rattle.btree_laws.specs.Focus.Need.{IsCountingUpward, path_need_from, path_need}
-use Rattle.btree_laws.specs.Need.{need, need_of_split, split_need, split_need_in}
+use Rattle.btree_laws.specs.Focus.Need.{path_need_from, path_need}
+use Rattle.btree_laws.specs.Need.{need_of_split, split_need_in}
 use Rattle.btree_laws.specs.Focus.Node.{IsNode}
-use Rattle.btree_laws.specs.Focus.Subtree.{IsFilled, IsFilledBelow, Subtree, count_at, items_under, later_items, most_at}
-use Rattle.btree_laws.specs.TreeState.{TreeState, IsBTree, IsUsed, node_map, nodes_for_splits, nodes_needed, pairs_of}
+use Rattle.btree_laws.specs.Focus.Subtree.{IsFilled, IsFilledBelow, Subtree, items_under, later_items}
+use Rattle.btree_laws.specs.TreeState.{IsBTree, nodes_needed}
 use Rattle.btree_laws.specs.Focus.Path.{Path, depth, fill, frame_count, least_at, top, under}
-use Rattle.btree_laws.specs.WellFormed.{IsFormed, IsRooted, IsSized, times_used}
+use Rattle.btree_laws.specs.WellFormed.{IsFormed, IsRooted, IsSized}
 use Rattle.btree_laws.specs.Focus.Focus.{IsFocus}
 use Rattle.btree_laws.proofs.Trees.Density.{dense}
 use Rattle.btree_laws.proofs.Paths.Frames.{fill-count}
 use Rattle.btree_laws.proofs.Paths.Levels.{levels-rooted}
-use Rattle.btree_laws.proofs.Trees.States.{height_held}
-use Rattle.btree_laws.proofs.Paths.Used.{less-no, less-yes}
+use Rattle.btree_laws.proofs.Paths.Used.{less-yes}
 use Rattle.btree_laws.proofs.Splits.Need.{split_need-node, upward-start}
 use Rattle.btree_laws.proofs.Paths.UnsizedFocus.{focus-unsized}
-use Rattle.btree_raw.specs.Steps.{IsCountingSplits}
-use Rattle.btree_laws.proofs.Trees.Numbers.{less-or}
 use Rattle.btree_laws.proofs.Paths.FromRoot.{node-at}
 use Rattle.btree_laws.proofs.Trees.Stores.{some-used}
 use Rattle.btree_laws.proofs.Paths.Focus.{close}

@@ -1,30 +1,13 @@
 -- The only item of a tree without nodes.
-use Rattle.std.proofs.Common.{◌≡◌, ◌+◌, ℕ, inl, [], ◌∷◌, Option, Some, None, sym, ap, subst, ◌∙◌, ◌<◌, ◌-◌, option_map, arith}
+use Rattle.btree_raw.proofs.Common.{◌≡◌, ◌+◌, ℕ, inl, [], ◌∷◌, Option, Some, None, sym, ap, subst, ◌∙◌, ◌<◌, ◌-◌, option_map, arith, Store, Ordering, Content, get-insert_other, Address, Node, view_of, leaf, item_in, IsPlace, IsWithin, one, WritesNode, TreeState, Changes, node_map, pairs_of, IsWellFormed, len-views, need, EMPTY, InsertsExactly, IsRefused, Refuses}
 use Rattle.std.specs.FinMap as map
 use Rattle.std.specs.Ordering.{nat_cmp}
-use Rattle.btree_item.specs.declared.refused.Cause.TheVariants.{Store}
-use Rattle.std.specs.declared.cmp.Ordering.{Ordering}
-use Rattle.btree_store.specs.Content.{Content}
-use Rattle.btree_store.specs.ContentLaws.{get-insert_other}
-use Rattle.btree_item.specs.Address.{Address}
-use Rattle.btree_node.specs.declared.node.Node.{Node}
-use Rattle.btree_node.specs.Node.{view_of}
-use Rattle.btree_view.specs.View.{leaf, item_in}
-use Rattle.btree_laws.specs.Place.{IsPlace, IsWithin}
-use Rattle.btree_laws.specs.Lists.{one}
-use Rattle.btree_laws.specs.Step.{WritesNode}
-use Rattle.btree_laws.specs.TreeState.{TreeState, Changes, node_map, pairs_of}
-use Rattle.btree_laws.specs.WellFormed.{IsWellFormed}
 use Rattle.btree_laws.proofs.Splits.Insertion.{first-well}
 use Rattle.btree_laws.proofs.Trees.OneLeaf.{IsOneLeaf, once_here, only-place}
-use Rattle.btree_laws.proofs.Trees.Stores.{len-views}
-use Rattle.btree_laws.specs.Need.{need}
 use Rattle.btree_laws.proofs.Trees.States.{is-tree-but-length, pairs-tree}
-use Rattle.btree_raw.specs.Claimed.{EMPTY}
 use Rattle.btree_raw.proofs.StateLemmas.{nodes-of, same-len, same-kept}
-use Rattle.btree_raw.specs.Insertion.{InsertsExactly, IsRefused, UsesNeeded}
+use Rattle.btree_raw.specs.Insertion.{UsesNeeded}
 use Rattle.btree_raw.specs.Limit.{IsBelowLimit}
-use Rattle.btree_raw.specs.Raw.{Refuses}
 
 pub len-of : {K V : Type 0} {a b : TreeState K V} → a ≡ b → a.len ≡ b.len
 len-of {K} {V} e = ap (λ (s : TreeState K V). s.len) e

@@ -1,13 +1,9 @@
 -- A node split into two, and a new root over two nodes.
-use Rattle.std.proofs.Common.{◌≡◌, ℕ, ◌<◌, ◌≤◌, [], ◌∷◌, Some, None, sym, ap, ◌∙◌, option_map, arith}
-use Rattle.btree_view.specs.Edits.{IsSplit, with_parent}
-use Rattle.btree_view.specs.View.{View, NodeMap, internal, children_of, children_in, size_of}
-use Rattle.btree_laws.specs.Lists.{times_listed}
-use Rattle.btree_laws.specs.Step.{Reparents, WritesNode, GrowsRoot, Splits}
-use Rattle.btree_laws.specs.WellFormed.{times_used}
+use Rattle.btree_raw.proofs.Common.{◌≡◌, ℕ, ◌<◌, ◌≤◌, [], ◌∷◌, Some, None, sym, ap, ◌∙◌, option_map, arith, IsSplit, with_parent, View, NodeMap, internal, children_of, children_in, size_of, times_listed, Reparents, WritesNode, Splits, times_used, AreThere, CutsAtMedian, HasCount, SetsParent}
+use Rattle.btree_laws.specs.Step.{GrowsRoot}
 use Rattle.btree_laws.proofs.Splits.Upward.{right-children}
 use Rattle.btree_laws.proofs.Trees.Numbers.{used-same}
-use Rattle.btree_raw.specs.Steps.{AreThere, CanGrowRoot, CanSplitInto, CutsAtMedian, HasCount, SetsParent}
+use Rattle.btree_raw.specs.Steps.{CanGrowRoot, CanSplitInto}
 
 module _ {A : Type 0} (node_at mid : NodeMap A) (id right count : ℕ) (median : A) (part : View A) (can : CanSplitInto node_at id right) (half : CutsAtMedian node_at mid id count median part) where
   parts : IsSplit can.can.node median half.left part

@@ -1,20 +1,8 @@
 -- A node that becomes the parent of its children, one after another.
-use Rattle.std.proofs.Common.{◌≡◌, ℕ, zero, suc, ◌+◌, ◌<◌, ◌≤◌, inl, inr, List, [], ◌∷◌, ◌++◌, length, take, slice_get, Option, Some, None, IsSome, refl, sym, ap, ◌∙◌, option_map, arith}
+use Rattle.btree_raw.proofs.Common.{◌≡◌, ℕ, zero, suc, ◌+◌, ◌<◌, ◌≤◌, inl, inr, List, [], ◌∷◌, ◌++◌, length, take, slice_get, Option, Some, None, IsSome, refl, sym, ap, ◌∙◌, option_map, arith, Content, Node, with_parent, view_of, View, NodeMap, leaf, internal, children_in, children_of, one, times_listed, Reparents, views, times_used, one-other, listed-append, same-or, used-mapped, zero-or, AreThere, SetsParent, get-times, used-view}
 use Rattle.std.specs.FinMap as map
-use Rattle.btree_store.specs.Content.{Content}
-use Rattle.btree_node.specs.declared.node.Node.{Node}
-use Rattle.btree_view.specs.Edits.{with_parent}
-use Rattle.btree_node.specs.Node.{view_of}
-use Rattle.btree_view.specs.View.{View, NodeMap, leaf, internal, children_in, children_of}
-use Rattle.btree_laws.specs.Lists.{one, times_listed}
-use Rattle.btree_laws.specs.Step.{Reparents}
-use Rattle.btree_laws.specs.TreeState.{views}
-use Rattle.btree_laws.specs.WellFormed.{times_used}
-use Rattle.btree_laws.proofs.Paths.Frames.{one-zero, one-other}
-use Rattle.btree_laws.proofs.Trees.Numbers.{listed-append, same-or, used-mapped, zero-or}
-use Rattle.btree_raw.specs.Steps.{AreThere, CanReparent, SetsParent}
-use Rattle.btree_laws.proofs.Paths.Parents.{get-times}
-use Rattle.btree_laws.proofs.Trees.Stores.{used-view}
+use Rattle.btree_laws.proofs.Paths.Frames.{one-zero}
+use Rattle.btree_raw.specs.Steps.{CanReparent}
 
 times-take : (n i : ℕ) (ids : List ℕ) → times_listed n (take i ids) ≤ times_listed n ids
 times-take n zero ids = omega arith

@@ -1,19 +1,12 @@
 -- A tree that is well formed but for its length: its root, its nodes, and the places of addresses under the root.
-use Rattle.std.proofs.Common.{◌≡◌, ◌<◌, ◌≤◌, ℕ, zero, suc, inl, inr, List, [], ◌∷◌, length, map, slice_get, Option, Some, None, refl, sym, subst, arith}
-use Rattle.std.proofs.lemmas.List.{length-map}
-use Rattle.std.specs.Cmp.{IsTotalOrder}
+use Rattle.btree_raw.proofs.Common.{◌≡◌, ◌<◌, ◌≤◌, ℕ, zero, suc, inl, inr, List, [], ◌∷◌, length, slice_get, Option, Some, None, refl, sym, subst, arith, length-map, IsTotalOrder, Ordering, View, leaf, internal, children_of, size_of, IsPlace, TreeState, IsUsed, node_map, pairs_of, IsWellFormed, same-or, used-one, height_held, used-view}
+use Rattle.std.proofs.Common.{map}
 use Rattle.std.specs.FinMap as finite
-use Rattle.std.specs.declared.cmp.Ordering.{Ordering}
-use Rattle.btree_view.specs.View.{View, leaf, internal, children_of, size_of}
 use Rattle.btree_laws.specs.AddressLaws.{IsPlaced}
-use Rattle.btree_laws.specs.Place.{IsPlace}
-use Rattle.btree_laws.specs.TreeState.{TreeState, IsBTree, IsBTreeButLength, IsUsed, node_map, pairs_of}
-use Rattle.btree_laws.specs.WellFormed.{IsWellFormed, least_of}
+use Rattle.btree_laws.specs.TreeState.{IsBTree, IsBTreeButLength}
+use Rattle.btree_laws.specs.WellFormed.{least_of}
 use Rattle.btree_laws.proofs.AddressLists.OnePlaceEach.{placed-formed}
-use Rattle.btree_laws.proofs.Trees.Numbers.{same-or, used-one}
 use Rattle.btree_laws.proofs.Trees.Sizes.{least-other, least-root}
-use Rattle.btree_laws.proofs.Trees.States.{height_held}
-use Rattle.btree_laws.proofs.Trees.Stores.{used-view}
 
 -- a well formed tree is one whatever its length says
 pub but-length : {K V : Type 0} (cmp : K → K → Ordering) (s : TreeState K V) → IsBTree cmp s → IsBTreeButLength cmp s

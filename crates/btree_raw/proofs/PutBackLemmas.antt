@@ -1,25 +1,15 @@
 -- An item taken out of a node may be put back by `insert_exactly_at`, if the tree was off by one there with it.
-use Rattle.std.proofs.Common.{◌≡◌, ◌≢◌, ◌∙◌, ◌+◌, ◌<◌, ◌≤◌, ℕ, zero, suc, List, [], ◌∷◌, Option, Some, None, Ok, refl, sym, ap, subst, arith, slice_get, option_map}
+use Rattle.btree_raw.proofs.Common.{◌≡◌, ◌≢◌, ◌∙◌, ◌+◌, ◌<◌, ◌≤◌, ℕ, zero, suc, List, [], ◌∷◌, Option, Some, None, refl, sym, ap, subst, arith, slice_get, option_map, remove, length-map, slice_get_within, Ordering, Address, Node, view_of, HasChildFor, with_item, without, View, leaf, internal, items_of, most_of, size_of, TreeState, IsOffByOneAt, node_map, writes_node, IsOffByOneWith, with_node}
+use Rattle.std.proofs.Common.{Ok}
 use Rattle.std.specs.Prelude.{map}
-use Rattle.std.specs.List.{remove}
 use Rattle.std.specs.FinMap as finite
-use Rattle.std.proofs.lemmas.List.{length-map}
 use Rattle.std.proofs.lemmas.List.Edits.{length-remove}
-use Rattle.std.proofs.lemmas.Option.{slice_get_within}
-use Rattle.std.specs.declared.cmp.Ordering.{Ordering}
-use Rattle.btree_item.specs.Address.{Address}
 use Rattle.btree_item.proofs.PairEdits.{insert-remove}
-use Rattle.btree_node.specs.declared.node.Node.{Node}
-use Rattle.btree_node.specs.Node.{view_of}
-use Rattle.btree_view.specs.Edits.{HasChildFor, with_item, without, without_at}
+use Rattle.btree_view.specs.Edits.{without_at}
 use Rattle.btree_view.specs.Removal.{removal_in}
-use Rattle.btree_view.specs.View.{View, leaf, internal, child_after_offset, items_of, most_of, size_of}
+use Rattle.btree_view.specs.View.{child_after_offset}
 use Rattle.btree_view.proofs.RemovalLemmas.{item-from_removal}
-use Rattle.btree_laws.specs.TreeState.{TreeState, IsOffByOneAt, node_map}
 use Rattle.btree_laws.proofs.Paths.Used.{full-yes}
-use Rattle.btree_laws.proofs.Trees.Stores.{writes_node}
-use Rattle.btree_raw.specs.Insertion.{IsOffByOneWith}
-use Rattle.btree_raw.specs.Raw.{with_node}
 
 module _ {A : Type 0} where
   -- the branch of an item

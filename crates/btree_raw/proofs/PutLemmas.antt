@@ -1,37 +1,19 @@
 -- An item put at exactly an address: the nodes with it, and what the steps of the insertion require and leave.
-use Rattle.std.proofs.Common.{◌≡◌, ◌≢◌, ◌∙◌, ◌+◌, ◌-◌, ◌<◌, ◌≤◌, ℕ, zero, suc, inl, inr, List, [], ◌∷◌, length, Bool, true, false, Option, Some, None, IsSome, refl, sym, ap, subst, arith, slice_get, option_map, option_and_then, if◌then◌else◌}
-use Rattle.std.specs.Prelude.{nat_lt, map}
+use Rattle.btree_raw.proofs.Common.{◌≡◌, ◌≢◌, ◌∙◌, ◌+◌, ◌-◌, ◌<◌, ◌≤◌, ℕ, zero, suc, inl, inr, List, [], ◌∷◌, length, Bool, true, false, Option, Some, None, IsSome, refl, sym, ap, subst, arith, slice_get, option_map, if◌then◌else◌, nat_lt, IsTotalOrder, length-map, Ordering, Content, Address, Store, Node, view_of, with_item, HasChildFor, View, leaf, internal, item_in, items_of, most_of, parent_of, size_of, times_listed, need, split_need, IsWithin, Claims, TreeState, Changes, IsOffByOneAt, IsUsed, KeepsRest, node_map, nodes_for_splits, pairs_of, views, IsOffByOne, times_used, less-no, less-or, same-node, same-or, used-one, is-off, len-views, AreClaimed, EMPTY, InsertsExactly, IsFull, IsOffByOneWith, IsRefused, Refuses, AddsItem, CanAddItem, IsCountingSplits, IsSplitting, Overflows, split_key}
+use Rattle.std.proofs.Common.{option_and_then}
+use Rattle.std.specs.Prelude.{map}
 use Rattle.std.specs.List.{insert}
-use Rattle.std.specs.Cmp.{IsTotalOrder}
 use Rattle.std.specs.FinMap as finite
-use Rattle.std.proofs.lemmas.List.{length-map}
 use Rattle.std.proofs.lemmas.List.Edits.{length-insert}
-use Rattle.std.specs.declared.cmp.Ordering.{Ordering}
-use Rattle.btree_store.specs.Content.{Content}
 use Rattle.btree_item.proofs.PairEdits.{slice_get-insert}
-use Rattle.btree_item.specs.Address.{Address}
-use Rattle.btree_item.specs.declared.refused.Cause.TheVariants.{Store}
-use Rattle.btree_node.specs.declared.node.Node.{Node}
-use Rattle.btree_node.specs.Node.{view_of}
-use Rattle.btree_view.specs.Edits.{with_item, HasChildFor}
-use Rattle.btree_view.specs.View.{View, leaf, internal, item_in, items_of, most_of, parent_of, size_of}
-use Rattle.btree_laws.specs.Lists.{times_listed}
-use Rattle.btree_laws.specs.Need.{need, split_need}
-use Rattle.btree_laws.specs.Place.{IsWithin}
 use Rattle.btree_laws.specs.Represents.{numbers_under}
-use Rattle.btree_laws.specs.Step.{Claims}
-use Rattle.btree_laws.specs.TreeState.{TreeState, Changes, IsOffByOneAt, IsUsed, IsValidIn, KeepsRest, item_of, node_map, nodes_for_splits, nodes_needed, pairs_of, views}
-use Rattle.btree_laws.specs.WellFormed.{IsOffByOne, times_used}
-use Rattle.btree_laws.proofs.Paths.Used.{less-no}
-use Rattle.btree_laws.proofs.Trees.Numbers.{less-or, same-node, same-or, used-low, used-one}
-use Rattle.btree_laws.proofs.Trees.States.{is-off}
-use Rattle.btree_laws.proofs.Trees.Stores.{len-views}
-use Rattle.btree_raw.specs.Claimed.{AreClaimed, EMPTY, MayRefuseOneOf}
-use Rattle.btree_raw.specs.Insertion.{InsertsExactly, IsFull, IsOffByOneWith, IsRefused, PutsItem, UsesNeeded}
+use Rattle.btree_laws.specs.TreeState.{IsValidIn, item_of, nodes_needed}
+use Rattle.btree_laws.proofs.Trees.Numbers.{used-low}
+use Rattle.btree_raw.specs.Claimed.{MayRefuseOneOf}
+use Rattle.btree_raw.specs.Insertion.{PutsItem, UsesNeeded}
 use Rattle.btree_raw.specs.Limit.{IsBelowLimit}
-use Rattle.btree_raw.specs.Raw.{Refuses}
 use Rattle.btree_raw.specs.Rebalance.{HasRoom, IsRebalanced}
-use Rattle.btree_raw.specs.Steps.{AddsItem, AreSplitAlike, CanAddItem, IsCountingSplits, IsSplitting, Overflows, SplitsUpward, split_key}
+use Rattle.btree_raw.specs.Steps.{AreSplitAlike, SplitsUpward}
 use Rattle.btree_raw.proofs.AlikeLemmas.{need-alike}
 use Rattle.btree_raw.proofs.ClaimLemmas.{claims-focus}
 use Rattle.btree_raw.proofs.RebalanceLemmas.{counting, is-split, splitting}

@@ -1,21 +1,10 @@
 -- A node inserted into a store of any content, which becomes the parent of its children.
-use Rattle.std.proofs.Common.{◌≡◌, ◌≢◌, ℕ, ◌<◌, inl, inr, List, Option, Some, None, IsSome, IsTrue, Bool, false, refl, ap, subst, ◌∙◌, arith}
+use Rattle.btree_raw.proofs.Common.{◌≡◌, ◌≢◌, ℕ, ◌<◌, inl, inr, List, Option, Some, None, IsSome, IsTrue, Bool, false, refl, ap, subst, ◌∙◌, arith, Ordering, Content, Node, view_of, children_in, children_of, times_listed, Reparents, TreeState, IsOffByOneAt, node_map, pairs_of, views, IsOffByOne, times_used, is-off, zero-or, writes_node}
 use Rattle.std.specs.FinMap as map
-use Rattle.std.specs.declared.cmp.Ordering.{Ordering}
-use Rattle.btree_store.specs.Content.{Content}
-use Rattle.btree_node.specs.declared.node.Node.{Node}
-use Rattle.btree_node.specs.Node.{view_of}
-use Rattle.btree_view.specs.View.{children_in, children_of}
-use Rattle.btree_laws.specs.Lists.{times_listed}
-use Rattle.btree_laws.specs.Step.{Reparents}
-use Rattle.btree_laws.specs.TreeState.{TreeState, IsOffByOneAt, node_map, pairs_of, views}
-use Rattle.btree_laws.specs.WellFormed.{IsOffByOne, times_used}
-use Rattle.btree_laws.proofs.Trees.States.{is-off}
 use Rattle.btree_valid.specs.OffByOne.{IsOffByOneAmong}
-use Rattle.btree_laws.proofs.Trees.Numbers.{zero-or}
 use Rattle.btree_raw.specs.Raw.{AreUsed}
 use Rattle.btree_raw.specs.Steps.{CanReparent}
-use Rattle.btree_laws.proofs.Trees.Stores.{writes_node, some-used}
+use Rattle.btree_laws.proofs.Trees.Stores.{some-used}
 
 module _ {K V : Type 0} where
   not-both : (o : Option (Node K V)) → o ≡ None → IsSome o → ⊥

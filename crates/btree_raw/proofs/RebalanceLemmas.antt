@@ -1,50 +1,32 @@
 -- Rebalancing: where its splits or underflow fixes begin, and how they end.
-use Rattle.std.proofs.Common.{◌≡◌, ◌∙◌, ◌+◌, ◌<◌, ◌≤◌, ◌++◌, [], ℕ, suc, inl, inr, List, length, length-append, Option, Some, None, IsSome, refl, sym, ap, subst, arith, slice_get}
-use Rattle.std.specs.Cmp.{IsTotalOrder}
+use Rattle.btree_raw.proofs.Common.{◌≡◌, ◌∙◌, ◌+◌, ◌<◌, ◌≤◌, ◌++◌, [], ℕ, suc, inl, inr, List, length, length-append, Option, Some, None, IsSome, refl, sym, ap, subst, arith, slice_get, IsTotalOrder, Ordering, Content, Address, Store, Node, View, NodeMap, item_in, items_of, most_of, size_of, MayOverflowAt, IsRepaired, split_need, IsPlace, times_listed, MayUnderflowAt, Claims, TreeState, KeepsRest, IsOffByOneAt, IsUsed, node_map, nodes_for_splits, pairs_of, views, IsWellFormed, times_used, listed-append, EMPTY, IsCountingSplits, AreClaimed, Refuses, IsFit, AreFixed, IsSplitting, Overflows, height_held, used-view, len-views, slice_get_within}
 use Rattle.std.specs.FinMap as map
-use Rattle.std.specs.declared.cmp.Ordering.{Ordering}
-use Rattle.btree_store.specs.Content.{Content}
-use Rattle.btree_item.specs.Address.{Address}
-use Rattle.btree_item.specs.declared.refused.Cause.TheVariants.{Store}
-use Rattle.btree_node.specs.declared.node.Node.{Node}
-use Rattle.btree_view.specs.View.{View, NodeMap, item_in, items_of, most_of, size_of}
-use Rattle.btree_laws.specs.Focus.Overflow.{MayOverflowAt, IsRepaired}
 use Rattle.btree_laws.specs.UnderflowFix.{IsUnderflowFixed}
-use Rattle.btree_laws.specs.Need.{split_need}
 use Rattle.btree_laws.specs.Focus.TreePositions.{IsAddressed}
-use Rattle.btree_laws.specs.Place.{IsEnd, IsPlace, IsPlaceOf, IsValid}
-use Rattle.btree_laws.specs.Lists.{times_listed}
-use Rattle.btree_laws.specs.Focus.Underflow.{MayUnderflowAt}
+use Rattle.btree_laws.specs.Place.{IsEnd, IsPlaceOf, IsValid}
 use Rattle.btree_laws.specs.Strain.{debt_of}
 use Rattle.btree_laws.specs.Represents.{Represents, numbers_under}
-use Rattle.btree_laws.specs.Step.{Claims}
 use Rattle.btree_laws.specs.Strain.{IsStrain, strain_under}
 use Rattle.btree_laws.specs.Focus.Positions.{IsExpected}
-use Rattle.btree_laws.specs.TreeState.{TreeState, HasLevels, HasLevelsUnder, KeepsRest, IsOffByOneAt, IsUsed, IsValidIn, node_map, nodes_for_splits, pairs_of, views}
-use Rattle.btree_laws.specs.WellFormed.{IsNearlySized, IsWellFormed, times_used}
+use Rattle.btree_laws.specs.TreeState.{HasLevels, HasLevelsUnder, IsValidIn}
+use Rattle.btree_laws.specs.WellFormed.{IsNearlySized}
 use Rattle.btree_laws.proofs.Underflow.Order.{underflow-levels}
-use Rattle.btree_laws.proofs.Trees.Numbers.{listed-append}
 use Rattle.btree_laws.proofs.Underflow.OffByOne.{emptied-well, fixed-well, off-need, off-overflow, off-underflow}
 use Rattle.btree_laws.proofs.Places.OfTree.{positions-addressed, valid-on}
 use Rattle.btree_laws.proofs.Splits.Insertion.{repaired-within, repaired-rooted}
 use Rattle.btree_laws.proofs.Places.Steps.{repaired-addressed}
 use Rattle.btree_laws.specs.Place.{item_at}
-use Rattle.btree_raw.specs.Claimed.{EMPTY, MayRefuseOneOf}
-use Rattle.btree_raw.specs.Steps.{IsCountingSplits}
-use Rattle.btree_raw.specs.Claimed.{AreClaimed}
+use Rattle.btree_raw.specs.Claimed.{MayRefuseOneOf}
 use Rattle.btree_raw.specs.OverflowSplit.{IsOverflowSplit}
-use Rattle.btree_raw.specs.Raw.{Refuses}
-use Rattle.btree_raw.specs.Rebalance.{FreesNodes, HasRoom, AllocatesForSplits, IsFit, IsRebalanced, IsRefusal, StaysAsIs}
-use Rattle.btree_raw.specs.Underflow.{AreFixed, IsFixingOf, FixesUnderflowUpward, IsRepairedOrEmpty}
-use Rattle.btree_raw.specs.Steps.{IsSplitting, Overflows, SplitsUpward}
+use Rattle.btree_raw.specs.Rebalance.{FreesNodes, HasRoom, AllocatesForSplits, IsRebalanced, IsRefusal, StaysAsIs}
+use Rattle.btree_raw.specs.Underflow.{IsFixingOf, FixesUnderflowUpward, IsRepairedOrEmpty}
+use Rattle.btree_raw.specs.Steps.{SplitsUpward}
 use Rattle.btree_raw.proofs.LevelLemmas.{split_need-few}
 use Rattle.btree_raw.proofs.FixedLemmas.{fix-done, fix-start}
-use Rattle.btree_laws.proofs.Trees.States.{height_held, is-tree-but-length, pairs-tree}
-use Rattle.btree_laws.proofs.Trees.Stores.{used-view, len-views}
+use Rattle.btree_laws.proofs.Trees.States.{is-tree-but-length, pairs-tree}
 use Rattle.btree_laws.proofs.Options.{some-of}
 use Rattle.btree_raw.proofs.ClaimLemmas.{claims-focus}
 use Rattle.btree_raw.proofs.StateLemmas.{same-len, same-kept, same-root}
-use Rattle.std.proofs.lemmas.Option.{slice_get_within}
 
 module _ {A : Type 0} where
   -- the numbers of nodes, with those that were allocated or freed

@@ -1,9 +1,8 @@
 -- Claims in a loop: one more, one freed, all freed.
-use Rattle.std.proofs.Common.{◌≡◌, ℕ, ◌+◌, ◌<◌, ◌^◌, ◌-◌, List, [], ◌∷◌, ◌++◌, IsSome, None, ap, sym, subst}
+use Rattle.btree_raw.proofs.Common.{◌≡◌, ℕ, ◌+◌, ◌<◌, ◌^◌, ◌-◌, List, [], ◌∷◌, ◌++◌, IsSome, None, ap, sym, subst, TreeState, AreClaimed, EMPTY, Refuses}
 use Rattle.std.specs.FinMap as map
-use Rattle.btree_laws.specs.TreeState.{TreeState, refused_once}
-use Rattle.btree_raw.specs.Claimed.{AreClaimed, EMPTY, IsClaimed}
-use Rattle.btree_raw.specs.Raw.{Refuses}
+use Rattle.btree_laws.specs.TreeState.{refused_once}
+use Rattle.btree_raw.specs.Claimed.{IsClaimed}
 use Rattle.btree_raw.proofs.ClaimLemmas.{claims-undone, one-more}
 use Rattle.btree_raw.proofs.StateLemmas.{with_nodes}
 

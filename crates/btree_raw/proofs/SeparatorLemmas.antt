@@ -1,24 +1,14 @@
 -- The index of a child in its parent, into which an item and a child are inserted there.
-use Rattle.std.proofs.Common.{◌≡◌, ℕ, ◌+◌, ◌<◌, ◌≤◌, ◌==◌, true, inl, inr, List, [], ◌∷◌, length, get_or, slice_get, Option, Some, None, IsSome, IsTrue, refl, sym, ap, subst, ◌∙◌, option_map, arith}
+use Rattle.btree_raw.proofs.Common.{◌≡◌, ℕ, ◌+◌, ◌<◌, ◌≤◌, true, inl, inr, List, [], ◌∷◌, length, slice_get, Option, Some, None, IsSome, IsTrue, refl, sym, ap, subst, ◌∙◌, option_map, arith, length-map, Content, Node, is_internal, with_item, view_of, View, leaf, internal, children_of, most_of, size_of, times_listed, views, same-or, AddsSeparator, AddsItem, CanAddItem, one-other, other-test}
+use Rattle.std.proofs.Common.{◌==◌, get_or}
 use Rattle.std.proofs.lemmas.Bool.Decides.{nat_tests}
 use Rattle.std.proofs.lemmas.Iterator.Adapters.{position_from-zero}
-use Rattle.std.proofs.lemmas.List.{length-map}
 use Rattle.std.proofs.lemmas.List.Quantifiers.{position-Some}
 use Rattle.std.proofs.lemmas.Option.{slice_get-get_or}
 use Rattle.std.specs.FinMap as map
 use Rattle.std.specs.List.{position, position_from}
-use Rattle.btree_store.specs.Content.{Content}
-use Rattle.btree_node.specs.declared.node.Node.{Node}
-use Rattle.btree_view.specs.Edits.{is_internal, with_item}
-use Rattle.btree_node.specs.Node.{view_of}
-use Rattle.btree_view.specs.View.{View, leaf, internal, children_of, most_of, size_of}
-use Rattle.btree_laws.specs.Lists.{times_listed}
-use Rattle.btree_laws.specs.TreeState.{views}
-use Rattle.btree_laws.proofs.Trees.Numbers.{same-or}
-use Rattle.btree_raw.specs.OverflowSplit.{AddsSeparator}
-use Rattle.btree_raw.specs.Steps.{AddsItem, CanAddSeparator, CanAddItem}
-use Rattle.btree_laws.proofs.Paths.Frames.{one-other}
-use Rattle.btree_laws.proofs.Places.Untouched.{other-test, same-test}
+use Rattle.btree_raw.specs.Steps.{CanAddSeparator}
+use Rattle.btree_laws.proofs.Places.Untouched.{same-test}
 
 are-equal : (m n : ℕ) → (m == n) ≡ true → m ≡ n
 are-equal m n e = grind (arith, nat_tests)

@@ -1,18 +1,11 @@
 -- Rotations and merges of two siblings, call by call.
-use Rattle.std.proofs.Common.{◌≡◌, ◌≢◌, ℕ, ◌+◌, ◌<◌, ◌≤◌, inl, inr, [], ◌∷◌, ◌++◌, Option, Some, None, IfSome, refl, sym, ap, subst, ◌∙◌, option_map, slice_get, arith}
-use Rattle.btree_raw.specs.declared.moved.siblings.Siblings.{Siblings}
-use Rattle.btree_view.specs.Edits.{HasChildFor, is_internal, joined, pushed_left, pushed_right, with_other_item, without}
-use Rattle.btree_view.specs.View.{NodeMap, View, children_of, items_of}
-use Rattle.btree_laws.specs.Lists.{as_list, times_listed}
-use Rattle.btree_laws.specs.Moved.{first_in}
+use Rattle.btree_raw.proofs.Common.{◌≡◌, ◌≢◌, ℕ, ◌+◌, ◌<◌, ◌≤◌, inl, inr, [], ◌∷◌, ◌++◌, Option, Some, None, IfSome, refl, sym, ap, subst, ◌∙◌, option_map, slice_get, arith, Siblings, HasChildFor, is_internal, without, NodeMap, View, children_of, items_of, as_list, times_listed, first_in, Reparents, WritesNode, times_used, one-self, listed-append, same-node, used-there, zero-or, MergesSiblings, RotatesSiblingsLeft, RotatesSiblingsRight, AreThere}
+use Rattle.btree_view.specs.Edits.{joined, pushed_left, pushed_right, with_other_item}
 use Rattle.btree_laws.specs.SiblingSteps.{IsRemade}
-use Rattle.btree_laws.specs.Step.{Reparents, Becomes, WritesNode}
-use Rattle.btree_laws.specs.WellFormed.{times_used}
-use Rattle.btree_laws.proofs.Paths.Frames.{one-self}
-use Rattle.btree_laws.proofs.Trees.Numbers.{listed-append, same-node, used-same, used-there, zero-or}
+use Rattle.btree_laws.specs.Step.{Becomes}
+use Rattle.btree_laws.proofs.Trees.Numbers.{used-same}
 use Rattle.btree_laws.proofs.Underflow.Calls.{left-written, merge-written, right-written}
-use Rattle.btree_raw.specs.NodeSteps.{AreSiblings, MergesSiblings, CanMerge, CanRotateLeft, CanRotateRight, ChangesSeparator, GainsAll, GainsFirst, GainsLast, HasSeparator, HasRoomFor, HasRoomForAll, RotatesSiblingsLeft, RotatesSiblingsRight, LosesSeparator, LosesFirst, LosesLast}
-use Rattle.btree_raw.specs.Steps.{AreThere}
+use Rattle.btree_raw.specs.NodeSteps.{AreSiblings, CanMerge, CanRotateLeft, CanRotateRight, ChangesSeparator, GainsAll, GainsFirst, GainsLast, HasSeparator, HasRoomFor, HasRoomForAll, LosesSeparator, LosesFirst, LosesLast}
 use Rattle.btree_raw.proofs.SingleNodeLemmas.{first-pushed, kind-left, kind-right, remade-joined, remade-left, remade-other, remade-right, remade-without}
 
 one-child : (child : Option ℕ) (P : ℕ → Type 0) → ((n : ℕ) → 0 < times_listed n (as_list child) → P n) → IfSome child P

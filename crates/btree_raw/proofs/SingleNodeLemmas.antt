@@ -1,28 +1,17 @@
 -- Single nodes of a store in the steps that fix an underflow, as a map of nodes sees them.
-use Rattle.std.proofs.Common.{◌≡◌, ℕ, suc, inl, inr, ◌+◌, ◌<◌, ◌≤◌, ◌^◌, ◌-◌, List, [], ◌∷◌, ◌++◌, length, map, set, Option, Some, None, IsSomeAnd, IsTrue, refl, sym, ap, subst, ◌∙◌, option_map, slice_get, arith, length-append}
-use Rattle.std.proofs.lemmas.List.{length-map, length-set, map-append}
+use Rattle.btree_raw.proofs.Common.{◌≡◌, ℕ, suc, inl, inr, ◌+◌, ◌<◌, ◌≤◌, ◌^◌, ◌-◌, List, [], ◌∷◌, ◌++◌, length, Option, Some, None, IsTrue, refl, sym, ap, subst, ◌∙◌, option_map, slice_get, arith, length-append, length-map, remove, Content, Node, view_of, HasChildFor, is_internal, with_parent, without, NodeMap, View, leaf, internal, children_of, items_of, most_of, size_of, as_list, one, first_in, Reparents, times_used, one-other, one-self, same-or, views, HasCount, SetsParent, writes_node}
+use Rattle.std.proofs.Common.{map, set, IsSomeAnd}
+use Rattle.std.proofs.lemmas.List.{length-set, map-append}
 use Rattle.std.proofs.lemmas.Slice.Zip.{firsts-zip, seconds-zip}
 use Rattle.std.specs.FinMap as nodes_map
-use Rattle.std.specs.List.{remove}
 use Rattle.std.specs.Option.{option_and_then}
-use Rattle.btree_store.specs.Content.{Content}
 use Rattle.btree_store.specs.ContentLaws.{get-remove_other, get-remove_same}
 use Rattle.btree_item.specs.Offset.{index_offset}
-use Rattle.btree_node.specs.declared.node.Node.{Node}
-use Rattle.btree_node.specs.Node.{view_of}
-use Rattle.btree_view.specs.Edits.{HasChildFor, HaveRoom, is_internal, joined, pushed_left, pushed_right, with_other_item, with_other_item_at, with_parent, without}
-use Rattle.btree_view.specs.View.{NodeMap, View, leaf, internal, children_of, items_of, most_of, size_of}
-use Rattle.btree_laws.specs.Lists.{as_list, one}
-use Rattle.btree_laws.specs.Moved.{first_in}
+use Rattle.btree_view.specs.Edits.{HaveRoom, joined, pushed_left, pushed_right, with_other_item, with_other_item_at}
 use Rattle.btree_laws.specs.SiblingSteps.{IsRemade, ShrinksRoot}
-use Rattle.btree_laws.specs.Step.{Reparents, RemovesNode}
-use Rattle.btree_laws.specs.WellFormed.{times_used}
-use Rattle.btree_laws.proofs.Paths.Frames.{one-other, one-self}
-use Rattle.btree_laws.proofs.Trees.Numbers.{same-or}
-use Rattle.btree_laws.specs.TreeState.{views}
+use Rattle.btree_laws.specs.Step.{RemovesNode}
 use Rattle.btree_raw.specs.NodeSteps.{CanShrinkRoot, ChangesSeparator, ClearsParent, GainsAll, GainsFirst, GainsLast, HasSeparator, HasRoomFor, HasRoomForAll, LosesSeparator, LosesFirst, LosesLast}
-use Rattle.btree_raw.specs.Steps.{HasCount, SetsParent}
-use Rattle.btree_laws.proofs.Trees.Stores.{most-few, writes_node, view-at}
+use Rattle.btree_laws.proofs.Trees.Stores.{most-few, view-at}
 use Rattle.btree_raw.proofs.SeparatorLemmas.{one-more}
 use Rattle.btree_raw.proofs.StepLemmas.{index-at}
 use Rattle.btree_internal.proofs.BranchLemmas.{map_remove}

@@ -1,15 +1,10 @@
 -- Changes of a tree's nodes, one after another, and single nodes written.
-use Rattle.std.proofs.Common.{◌≡◌, ◌↔◌, ℕ, Bor, Option, Some, None, IsSome, refl, sym, ap, ◌∙◌, option_and_then, option_copied, arith}
+use Rattle.btree_raw.proofs.Common.{◌≡◌, ◌↔◌, ℕ, Option, Some, None, IsSome, refl, sym, ap, ◌∙◌, arith, Content, get-insert_other, Node, Address, View, item_in, KeepsRest, TreeState, node_map, views, used-one, used-view}
+use Rattle.std.proofs.Common.{Bor, option_and_then, option_copied}
 use Rattle.std.specs.FinMap as map
-use Rattle.btree_store.specs.Content.{Content}
-use Rattle.btree_store.specs.ContentLaws.{get-insert_other, get-remove_other, get-remove_same, is_remove}
-use Rattle.btree_node.specs.declared.node.Node.{Node}
-use Rattle.btree_item.specs.Address.{Address}
-use Rattle.btree_view.specs.View.{View, item_in}
+use Rattle.btree_store.specs.ContentLaws.{get-remove_other, get-remove_same, is_remove}
 use Rattle.btree_laws.specs.Place.{IsOccupied}
-use Rattle.btree_laws.specs.TreeState.{IsOccupiedIn, KeepsRest, Kept, TreeState, item_of, node_map, views}
-use Rattle.btree_laws.proofs.Trees.Numbers.{used-one}
-use Rattle.btree_laws.proofs.Trees.Stores.{used-view}
+use Rattle.btree_laws.specs.TreeState.{IsOccupiedIn, Kept, item_of}
 
 module _ {K V : Type 0} where
   -- a state with other nodes

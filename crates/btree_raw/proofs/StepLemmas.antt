@@ -1,17 +1,11 @@
 -- Single nodes of a store, changed, as a map of nodes sees them.
-use Rattle.std.proofs.Common.{◌≡◌, ℕ, ◌<◌, ◌≤◌, ◌^◌, ◌-◌, Option, Some, None, IsSomeAnd, false, length, arith, refl, sym, subst, ap, ◌∙◌, option_map}
+use Rattle.btree_raw.proofs.Common.{◌≡◌, ℕ, ◌<◌, ◌≤◌, ◌^◌, ◌-◌, Option, Some, None, false, length, arith, refl, sym, subst, ap, ◌∙◌, option_map, Content, Node, HasChildFor, is_internal, IsSplit, with_item, view_of, View, NodeMap, leaf, internal, children_in, children_of, most_of, size_of, views, AddsItem, CanAddItem, CutsAtMedian, HasCount, other-test, writes_node}
+use Rattle.std.proofs.Common.{IsSomeAnd}
 use Rattle.std.specs.FinMap as map
-use Rattle.btree_store.specs.Content.{Content}
 use Rattle.btree_item.specs.Offset.{index_offset}
-use Rattle.btree_node.specs.declared.node.Node.{Node}
-use Rattle.btree_view.specs.Edits.{HasChildFor, is_internal, IsSplit, with_item, with_item_at}
-use Rattle.btree_node.specs.Node.{view_of}
-use Rattle.btree_view.specs.View.{View, NodeMap, leaf, internal, children_in, children_of, most_of, size_of}
+use Rattle.btree_view.specs.Edits.{with_item_at}
 use Rattle.btree_laws.specs.Place.{IsLeaf}
-use Rattle.btree_laws.specs.TreeState.{views}
-use Rattle.btree_raw.specs.Steps.{AddsItem, CanAddItem, CutsAtMedian, HasCount}
-use Rattle.btree_laws.proofs.Places.Untouched.{other-test}
-use Rattle.btree_laws.proofs.Trees.Stores.{most-few, writes_node, view-at}
+use Rattle.btree_laws.proofs.Trees.Stores.{most-few, view-at}
 
 -- an index that is not too large is an offset
 index-small : (n index : ℕ) (o : Option ℕ) → index < 2 ^ 64 - 1 → index ≤ n → o ≡ index_offset index → IsSomeAnd o (λ i. i ≤ n)

@@ -1,32 +1,19 @@
 -- A node with an item too few and its siblings: what the step there requires, and what holds afterwards.
-use Rattle.std.proofs.Common.{◌≡◌, ◌≢◌, ℕ, zero, suc, ◌+◌, ◌<◌, ◌≤◌, ◌-◌, ◌==◌, List, [], ◌∷◌, length, Option, Some, None, IsSome, refl, sym, ap, subst, ◌∙◌, option_map, slice_get, arith, inl, inr}
-use Rattle.std.proofs.lemmas.List.{length-map}
+use Rattle.btree_raw.proofs.Common.{◌≡◌, ◌≢◌, ℕ, zero, suc, ◌+◌, ◌<◌, ◌≤◌, ◌-◌, List, [], ◌∷◌, length, Option, Some, None, IsSome, refl, sym, ap, subst, ◌∙◌, option_map, slice_get, arith, inl, inr, length-map, Content, Siblings, Address, Node, view_of, NodeMap, View, leaf, internal, children_in, children_of, parent_of, size_of, Borrows, MergesNode, size_in, times_listed, views, times_used, get-times, MergesSiblings, RotatesSiblingsLeft, RotatesSiblingsRight, AreAdjacent, FitTogether, IsFollowed, Underflows, HasCount, used-there, same-node, slice_get_within}
+use Rattle.std.proofs.Common.{◌==◌}
 use Rattle.std.specs.FinMap as nodes_map
 use Rattle.std.specs.List.{position}
-use Rattle.btree_store.specs.Content.{Content}
-use Rattle.btree_raw.specs.declared.moved.siblings.Siblings.{Siblings}
-use Rattle.btree_item.specs.Address.{Address}
-use Rattle.btree_node.specs.declared.node.Node.{Node}
-use Rattle.btree_node.specs.Node.{view_of}
 use Rattle.std.specs.Prelude.{IfSome}
-use Rattle.btree_view.specs.View.{NodeMap, View, leaf, internal, children_in, children_of, parent_of, size_of}
 use Rattle.btree_laws.specs.SiblingSteps.{Merges}
-use Rattle.btree_laws.specs.UnderflowFix.{Borrows, MergesNode, NoneSpares, child_at, from_left, from_right, size_in, with_left, with_right}
-use Rattle.btree_laws.specs.Lists.{times_listed}
-use Rattle.btree_laws.specs.TreeState.{views}
-use Rattle.btree_laws.specs.WellFormed.{times_used}
-use Rattle.btree_laws.proofs.Paths.Parents.{get-times}
+use Rattle.btree_laws.specs.UnderflowFix.{NoneSpares, child_at, from_left, from_right, with_left, with_right}
 use Rattle.btree_laws.proofs.Underflow.Upward.{to-over}
-use Rattle.btree_raw.specs.NodeSteps.{MergesSiblings, RotatesSiblingsLeft, RotatesSiblingsRight}
-use Rattle.btree_raw.specs.Underflow.{AreAdjacent, HasSiblings, FitTogether, IsChild, IsFollowed, Underflows, siblings_at, siblings_of}
-use Rattle.btree_raw.specs.Steps.{HasCount}
+use Rattle.btree_raw.specs.Underflow.{HasSiblings, IsChild, siblings_at, siblings_of}
 use Rattle.btree_raw.proofs.SeparatorLemmas.{has-index, index-is}
 use Rattle.btree_raw.proofs.StepLemmas.{size-at}
 use Rattle.btree_laws.proofs.Underflow.Adjacent.{AdjacentSteps}
-use Rattle.btree_laws.proofs.Trees.Numbers.{used-there, same-node}
 use Rattle.btree_laws.proofs.Options.{none-some}
 use Rattle.btree_raw.proofs.BorrowLemmas.{followed-node, followed-under, pair}
-use Rattle.std.proofs.lemmas.Option.{slice_get_within, slice_get-get_or}
+use Rattle.std.proofs.lemmas.Option.{slice_get-get_or}
 
 module _ {A : Type 0} where
   children-some : (v : View A) (index id : ℕ) → slice_get (children_of v) index ≡ Some id → length (children_of v) ≡ size_of v + 1

@@ -1,27 +1,21 @@
 -- A split upward, from the node where it began to the node that it has reached.
-use Rattle.std.proofs.Common.{◌≡◌, ◌≢◌, ◌↔◌, ◌⊎◌, true, false, IsTrue, ℕ, suc, ◌+◌, ◌<◌, ◌≤◌, ◌^◌, ◌-◌, inl, inr, List, [], ◌∷◌, ◌++◌, All, Option, Some, None, IfSome, IsSome, is_some, if◌then◌else◌, length, length-append, option_map, slice_get, refl, sym, ap, subst, ◌∙◌, arith}
+use Rattle.btree_raw.proofs.Common.{◌≡◌, ◌≢◌, ◌↔◌, true, false, IsTrue, ℕ, suc, ◌+◌, ◌<◌, ◌≤◌, ◌^◌, ◌-◌, inl, inr, List, [], ◌∷◌, ◌++◌, Option, Some, None, IfSome, IsSome, if◌then◌else◌, length, length-append, option_map, slice_get, refl, sym, ap, subst, ◌∙◌, arith, Address, with_item, with_parent, View, NodeMap, children_in, children_of, internal, most_of, parent_of, size_of, MayOverflowAt, IsRepaired, one, times_listed, count_at, WritesNode, Splits, times_used, get-times, one-self, less-or, same-or, used-mapped, used-one, zero-or, AddsSeparator, HasCount, IsSplitting, Overflows}
+use Rattle.std.proofs.Common.{◌⊎◌, All, is_some}
 use Rattle.std.proofs.lemmas.List.{nil_from_length}
-use Rattle.btree_item.specs.Address.{Address}
-use Rattle.btree_view.specs.Edits.{IsOverflowing, with_item, with_parent}
-use Rattle.btree_view.specs.View.{View, NodeMap, children_in, children_of, internal, most_of, parent_of, size_of}
-use Rattle.btree_laws.specs.Focus.Overflow.{MayOverflowAt, IsRepaired}
+use Rattle.btree_view.specs.Edits.{IsOverflowing}
 use Rattle.btree_laws.specs.Moved.{moved_by_split}
 use Rattle.btree_laws.specs.Place.{IsBack}
-use Rattle.btree_laws.specs.Lists.{one, times_listed}
-use Rattle.btree_laws.specs.Focus.Subtree.{count_at, times_under, view_at}
-use Rattle.btree_laws.specs.Step.{WritesNode, GrowsRoot, Splits}
+use Rattle.btree_laws.specs.Focus.Subtree.{times_under, view_at}
+use Rattle.btree_laws.specs.Step.{GrowsRoot}
 use Rattle.btree_laws.specs.Focus.Path.{parent_above}
-use Rattle.btree_laws.specs.WellFormed.{times_used}
 use Rattle.btree_laws.proofs.Places.Backs.{split-back}
 use Rattle.btree_laws.proofs.Splits.Claims.{push-spare}
-use Rattle.btree_laws.proofs.Paths.Parents.{get-times}
-use Rattle.btree_laws.proofs.Paths.Frames.{one-self}
 use Rattle.btree_laws.proofs.Splits.Upward.{UpTo, child-apart, child-used, overflow-done, overflow-node, overflow-spare, overflow-used, new-root, root-spare, spare-apart, spare-used, to-parent}
-use Rattle.btree_laws.proofs.Trees.Numbers.{less-or, none-listed, same-or, times-has, used-low, used-mapped, used-one, zero-or}
+use Rattle.btree_laws.proofs.Trees.Numbers.{none-listed, times-has, used-low}
 use Rattle.btree_laws.proofs.Trees.Sizes.{view-most, view-size}
-use Rattle.btree_raw.specs.OverflowSplit.{AddsSeparator, CutsNode, OverflowSplit, goes_up, grows_root, rests}
+use Rattle.btree_raw.specs.OverflowSplit.{CutsNode, OverflowSplit, goes_up, grows_root, rests}
 use Rattle.btree_raw.specs.declared.node_changes.Cut.{Cut}
-use Rattle.btree_raw.specs.Steps.{AreSplit, CanAddSeparator, CanCut, CanGrowRoot, CanSplitInto, HasCount, IsSplitting, MayCut, Overflows}
+use Rattle.btree_raw.specs.Steps.{AreSplit, CanAddSeparator, CanCut, CanGrowRoot, CanSplitInto, MayCut}
 use Rattle.btree_raw.proofs.SeparatorLemmas.{one-more}
 use Rattle.btree_raw.proofs.OffsetLemmas.{overflow-low}
 

@@ -1,13 +1,8 @@
 -- An address in a node.
-use Rattle.std.proofs.Common.{◌≡◌, ℕ, IsTrue, leb, Option, Some, None, IsSome, option_map, refl, subst, sym}
+use Rattle.btree_raw.proofs.Common.{◌≡◌, ℕ, IsTrue, Option, Some, None, IsSome, option_map, refl, subst, sym, Address, view_of, Node, IsWithin, size_of, TreeState, IsUsed, node_map}
+use Rattle.std.proofs.Common.{leb}
 use Rattle.std.specs.FinMap as map
-use Rattle.btree_item.specs.Address.{Address}
 use Rattle.btree_node.proofs.RoomLemmas.{at_least}
-use Rattle.btree_node.specs.Node.{view_of}
-use Rattle.btree_node.specs.declared.node.Node.{Node}
-use Rattle.btree_laws.specs.Place.{IsWithin}
-use Rattle.btree_view.specs.View.{size_of}
-use Rattle.btree_laws.specs.TreeState.{TreeState, IsUsed, node_map}
 use Rattle.btree_raw.specs.Raw.{IsWithinNode}
 
 -- no address is in a node that is not there

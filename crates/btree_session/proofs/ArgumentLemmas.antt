@@ -1,10 +1,9 @@
 -- What arguments ask for, by the comparisons of `setup` and `limit_of`.
-use Rattle.std.proofs.Common.{◌≡◌, ◌∙◌, ◌<◌, ◌≤◌, ◌-◌, [], ◌∷◌, List, ℕ, Bool, true, false, length, take, drop, get_or, codes, Bor, ap, subst, sym, arith}
+use Rattle.btree_session.proofs.Common.{◌≡◌, ◌∙◌, ◌<◌, ◌≤◌, ◌-◌, [], ◌∷◌, List, ℕ, Bool, true, false, length, take, drop, get_or, ap, subst, sym, arith, take_all, IsNumber}
+use Rattle.std.proofs.Common.{codes, Bor}
 use Rattle.std.specs.Cmp.Lexicographic.{pointwise, bytes_decides}
 use Rattle.std.proofs.Math.Dec.{eqb}
-use Rattle.std.proofs.lemmas.List.{take_all}
 use Rattle.btree_session.specs.Arguments.{Asks, AsksLimit, texts}
-use Rattle.btree_session.specs.Line.{IsNumber}
 
 abbrev Words : Type 0
 Words = List (Bor (List ℕ))

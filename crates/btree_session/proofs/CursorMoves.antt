@@ -1,22 +1,20 @@
 -- Steps of the machine of an editing cursor, by the contracts of the cursor.
-use Rattle.std.proofs.Common.{◌≡◌, ℕ, ◌+◌, List, [], ◌∷◌, Some, None, length, drop, slice_get, refl, sym, ap, arith}
+use Rattle.btree_session.proofs.Common.{◌≡◌, ℕ, ◌+◌, List, [], ◌∷◌, Some, None, length, drop, refl, sym, ap, arith, nat_cmp, Cause, pairs_of, Nothing, Pair, Refused}
+use Rattle.std.proofs.Common.{slice_get}
 use Rattle.std.proofs.lemmas.List.{length-drop, length-take}
 use Rattle.std.proofs.lemmas.Option.{same_Some}
-use Rattle.std.specs.Ordering.{nat_cmp}
 use Rattle.std.specs.declared.cmp.Ord as ord
 use Rattle.std.specs.declared.cmp.PartialEq as eq
 use Rattle.std.specs.declared.cmp.PartialOrd as partial
-use Rattle.btree_item.specs.declared.refused.Cause.{Cause}
 use Rattle.btree_item.specs.declared.refused.Cause.TheVariants.{Store, Count}
 use Rattle.btree_node.specs.declared.node_stores.Nodes as nodes
 use Rattle.btree_node.specs.declared.node_stores.NodesMut as nodes_mut
 use Rattle.btree_raw.specs.Insertion.{IsRefused}
-use Rattle.btree_laws.specs.TreeState.{pairs_of}
 use Rattle.btree_find.specs.CallerLaws.{none-first}
 use Rattle.btree_map.specs.Cursor.{or_nowhere}
 use Rattle.btree_map.specs.Editing.{FitsBetween, InsertsEntry, RefusesEntry, RemovesEntry, WritesPassed, entry_front, left_of, passed_of, past_first}
 use Rattle.btree_map.specs.declared.cursor.editing.EntriesMut.{EntriesMut}
-use Rattle.btree_session.specs.declared.command.Reply.TheVariants.{Nothing, Pair, Done, Refused}
+use Rattle.btree_session.specs.declared.command.Reply.TheVariants.{Done}
 use Rattle.btree_session.specs.declared.cursor.CursorStep.TheVariants.{Peek, Next, Insert, Remove}
 use Rattle.btree_session.specs.CursorMachine.{IsCursorStep, IsRefusable, after_refusal, spot_of, state_at}
 

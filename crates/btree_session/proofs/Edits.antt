@@ -1,25 +1,19 @@
 -- Steps of a session that remove pairs, or edit the map at the address that is held.
-use Rattle.std.proofs.Common.{◌≡◌, ℕ, [], Option, Some, None, IfSome, IfNone, refl, sym, ap, subst, option_map}
+use Rattle.btree_session.proofs.Common.{◌≡◌, ℕ, [], Option, Some, None, refl, sym, ap, subst, option_map, nat_cmp_total, nat_cmp, found, Address, Cause, Content, Node, TreeState, IsBTree, pairs_of, HasPlace, has-place, Nothing, Pair, Refused, Held, HoldsBack, IsHeldPlace, IsStep}
+use Rattle.std.proofs.Common.{IfSome, IfNone}
 use Rattle.std.proofs.lemmas.Option.{slice_get_past}
 use Rattle.std.specs.FinMap as finite
-use Rattle.std.specs.Cmp.{nat_cmp_total}
-use Rattle.std.specs.Ordering.{nat_cmp}
-use Rattle.btree_item.specs.Pairs.{KeyFits, found, found_value}
-use Rattle.btree_item.specs.Address.{Address}
-use Rattle.btree_item.specs.declared.refused.Cause.{Cause}
-use Rattle.btree_store.specs.Content.{Content}
-use Rattle.btree_node.specs.declared.node.Node.{Node}
-use Rattle.btree_laws.specs.TreeState.{TreeState, IsBTree, IsValidIn, pairs_of, rootless}
+use Rattle.btree_item.specs.Pairs.{KeyFits, found_value}
+use Rattle.btree_laws.specs.TreeState.{IsValidIn, rootless}
 use Rattle.btree_find.specs.Fits.{FitsAt}
-use Rattle.btree_find.specs.Navigation.{HasPlace, IsNormalized}
-use Rattle.btree_find.proofs.PlaceLemmas.{has-place, place-there}
+use Rattle.btree_find.specs.Navigation.{IsNormalized}
+use Rattle.btree_find.proofs.PlaceLemmas.{place-there}
 use Rattle.btree_raw.specs.Limit.{IsWithinLimit}
 use Rattle.btree_ext.specs.InsertAt.{InsertsAt, IsRefusedAt}
 use Rattle.btree_ext.specs.Remove.{IsRemoved, RemovesByKey}
 use Rattle.btree_session.specs.declared.command.Command.TheVariants.{Remove, Clear, Put, Take}
-use Rattle.btree_session.specs.declared.command.Reply.TheVariants.{Nothing, Value, Pair, Done, NoPlace, Unfit, Refused}
-use Rattle.btree_session.specs.Held.{Held, HoldsBack}
-use Rattle.btree_session.specs.Machine.{IsHeldPlace, IsStep, value_reply}
+use Rattle.btree_session.specs.declared.command.Reply.TheVariants.{Value, Done, NoPlace, Unfit}
+use Rattle.btree_session.specs.Machine.{value_reply}
 use Rattle.btree_session.proofs.Steps.{a_step, held_place, held_place-refused, refusable, state-refused, state_at}
 
 module _ (may_refuse : Content (Node ℕ ℕ) → Type 0) (old new : TreeState ℕ ℕ) (tree : IsBTree nat_cmp old) where

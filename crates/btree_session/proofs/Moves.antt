@@ -1,24 +1,15 @@
 -- Steps of a session that find an address and hold it, or go from the held one to the next or the previous item.
-use Rattle.std.proofs.Common.{◌≡◌, ◌≤◌, ◌∙◌, ℕ, zero, suc, List, length, slice_get, Option, Some, None, refl, sym, ap, subst, arith, option_map}
+use Rattle.btree_session.proofs.Common.{◌≡◌, ◌≤◌, ◌∙◌, ℕ, zero, suc, List, length, Option, Some, None, refl, sym, ap, subst, arith, option_map, nat_cmp_total, nat_cmp, found, Address, Content, Node, TreeState, IsBTree, pairs_of, HasPlace, has-place, Command, Reply, Nothing, Pair, Held, HoldsBack, IsHeldPlace, IsStep}
+use Rattle.std.proofs.Common.{slice_get}
 use Rattle.std.proofs.lemmas.Option.{slice_get_past}
-use Rattle.std.specs.Cmp.{nat_cmp_total}
-use Rattle.std.specs.Ordering.{nat_cmp}
-use Rattle.btree_item.specs.Pairs.{before, found}
-use Rattle.btree_item.specs.Address.{Address}
+use Rattle.btree_item.specs.Pairs.{before}
 use Rattle.btree_item.proofs.PairLemmas.{before-from_Ok, before-from_Err, found-from_Err}
-use Rattle.btree_store.specs.Content.{Content}
-use Rattle.btree_node.specs.declared.node.Node.{Node}
-use Rattle.btree_laws.specs.TreeState.{TreeState, IsBTree, IsPlaceIn, item_of, node_map, pairs_of}
+use Rattle.btree_laws.specs.TreeState.{IsPlaceIn, item_of, node_map}
 use Rattle.btree_find.specs.Answers.{IsFoundAt, IsGapAt}
-use Rattle.btree_find.specs.Navigation.{HasPlace, IsItemAddress, IsItemAt, IsItemBefore, IsNext, IsNormalized, IsPrevious}
+use Rattle.btree_find.specs.Navigation.{IsItemAddress, IsItemAt, IsItemBefore, IsNext, IsNormalized, IsPrevious}
 use Rattle.btree_find.proofs.FitsLemmas.{place-low}
-use Rattle.btree_find.proofs.PlaceLemmas.{has-place}
-use Rattle.btree_session.specs.declared.command.Command.{Command}
 use Rattle.btree_session.specs.declared.command.Command.TheVariants.{Seek, Next, Prev}
-use Rattle.btree_session.specs.declared.command.Reply.{Reply}
-use Rattle.btree_session.specs.declared.command.Reply.TheVariants.{Nothing, Pair, Found, Gap, NoPlace}
-use Rattle.btree_session.specs.Held.{Held, HoldsBack}
-use Rattle.btree_session.specs.Machine.{IsHeldPlace, IsStep}
+use Rattle.btree_session.specs.declared.command.Reply.TheVariants.{Found, Gap, NoPlace}
 use Rattle.btree_session.proofs.Steps.{a_step, held_place}
 
 module _ (may_refuse : Content (Node ℕ ℕ) → Type 0) (map : TreeState ℕ ℕ) (tree : IsBTree nat_cmp map) where

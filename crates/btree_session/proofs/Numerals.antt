@@ -1,12 +1,11 @@
 -- Words that are a number, and words that are not.
-use Rattle.std.proofs.Common.{◌≡◌, ℕ, ◌+◌, ◌*◌, ◌^◌, ◌<◌, ◌≤◌, List, take, length, get_or, sym, arith}
+use Rattle.btree_session.proofs.Common.{◌≡◌, ℕ, ◌+◌, ◌^◌, ◌<◌, ◌≤◌, List, take, length, get_or, sym, arith, take_all, IsNumber}
+use Rattle.std.proofs.Common.{◌*◌}
 use Rattle.std.specs.Int.{IsInRange}
 use Rattle.std.specs.Str.Parse.{AllDigits, digits_value}
 use Rattle.std.proofs.lemmas.Int.Digits.{digits_value_more, digits_more}
-use Rattle.std.proofs.lemmas.List.{take_all}
 use Rattle.std.proofs.lemmas.Str.{digit_value_digit}
 use Rattle.std.proofs.lemmas.Str.Parse.{digits_value-take-le, digit_at}
-use Rattle.btree_session.specs.Line.{IsNumber}
 
 -- the digits so far, and their value
 pub record AreDigits (word : List ℕ) (count value : ℕ) : Type 0 where

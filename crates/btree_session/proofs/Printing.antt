@@ -1,18 +1,16 @@
 -- Texts that are appended piece by piece.
-use Rattle.std.proofs.Common.{◌≡◌, ◌≢◌, ℕ, zero, suc, ◌-◌, ◌<◌, List, [], ◌∷◌, ◌++◌, map, Some, option_map, refl, sym, ap, ◌∙◌, arith, append_assoc, append-nil, decimal}
+use Rattle.btree_session.proofs.Common.{◌≡◌, ℕ, zero, suc, ◌-◌, ◌<◌, List, [], ◌∷◌, ◌++◌, map, Some, option_map, refl, sym, ap, ◌∙◌, arith, append_assoc, append-nil, decimal, flat_map, Content, Node, views, pair_text, shape_under}
+use Rattle.std.proofs.Common.{◌≢◌}
 use Rattle.std.specs.FinMap as finite
 use Rattle.std.specs.Prelude.{Result, Ok, Err, OnOk, OnErr}
 use Rattle.std.specs.declared.alloc.AllocError.{AllocError}
-use Rattle.std.specs.List.{flat_map, join_with_byte}
-use Rattle.btree_store.specs.Content.{Content}
+use Rattle.std.specs.List.{join_with_byte}
 use Rattle.btree_internal.specs.Internal.{Internal as InternalParts, branch_pair}
 use Rattle.btree_node.specs.Node.{view_of}
 use Rattle.btree_view.specs.View.{NodeMap}
 use Rattle.btree_internal.specs.declared.internal.Branch.{Branch}
-use Rattle.btree_node.specs.declared.node.Node.{Node}
 use Rattle.btree_node.specs.declared.node.Node.TheVariants.{Internal}
-use Rattle.btree_laws.specs.TreeState.{views}
-use Rattle.btree_session.specs.Answer.{pair_text, list_text, bracketed, shape_in, shape_under}
+use Rattle.btree_session.specs.Answer.{list_text, bracketed, shape_in}
 use Rattle.btree_session.specs.Text.{Grows}
 
 -- this much of a text is after the start, and this is left of it

@@ -1,16 +1,14 @@
 -- Texts without room for what is printed piece by piece.
-use Rattle.std.proofs.Common.{◌≡◌, ℕ, ◌+◌, ◌-◌, ◌<◌, ◌≤◌, List, [], ◌∷◌, ◌++◌, length, Some, option_map, Vec, vec_len, vec_capacity, refl, sym, ap, ◌∙◌, arith, append_assoc, append-nil, length-append, decimal}
+use Rattle.btree_session.proofs.Common.{◌≡◌, ℕ, ◌+◌, ◌-◌, ◌<◌, ◌≤◌, List, [], ◌∷◌, ◌++◌, length, Some, option_map, vec_len, vec_capacity, refl, sym, ap, ◌∙◌, arith, append_assoc, append-nil, length-append, decimal, flat_map, Content, Node, views, shape_under}
+use Rattle.std.proofs.Common.{Vec}
 use Rattle.std.specs.FinMap as finite
 use Rattle.std.specs.Prelude.{Result, Ok, Err, OnErr}
 use Rattle.std.specs.declared.alloc.AllocError.{AllocError}
-use Rattle.std.specs.List.{flat_map, join_with_byte}
-use Rattle.btree_store.specs.Content.{Content}
+use Rattle.std.specs.List.{join_with_byte}
 use Rattle.btree_internal.specs.Internal.{Internal as InternalParts}
 use Rattle.btree_node.specs.Node.{view_of}
-use Rattle.btree_node.specs.declared.node.Node.{Node}
 use Rattle.btree_node.specs.declared.node.Node.TheVariants.{Internal}
-use Rattle.btree_laws.specs.TreeState.{views}
-use Rattle.btree_session.specs.Answer.{shape_in, shape_under}
+use Rattle.btree_session.specs.Answer.{shape_in}
 use Rattle.btree_session.specs.Text.{LacksCapacityFor, LacksRoomFor}
 use Rattle.btree_session.proofs.Printing.{Printed, shape_under-suc}
 

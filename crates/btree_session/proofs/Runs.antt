@@ -1,7 +1,6 @@
 -- Runs of a machine, one after another.
-use Rattle.std.proofs.Common.{◌≡◌, ℕ, ◌+◌, ◌<◌, List, [], ◌∷◌, ◌++◌, take, length, get_or, refl, ap, ◌∙◌, append_assoc}
+use Rattle.btree_session.proofs.Common.{◌≡◌, ℕ, ◌+◌, ◌<◌, List, [], ◌∷◌, ◌++◌, take, length, get_or, refl, ap, ◌∙◌, append_assoc, Reply}
 use Rattle.std.proofs.lemmas.List.{take_more}
-use Rattle.btree_session.specs.declared.command.Reply.{Reply}
 use Rattle.btree_session.specs.Run.{IsRunBy}
 
 module _ {S X : Type 0} (Step : S → X → Reply → S → Type 0) where

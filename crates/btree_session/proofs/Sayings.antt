@@ -1,13 +1,12 @@
 -- What a name says with numbers after it.
-use Rattle.std.proofs.Common.{◌≡◌, ℕ, List, [], ◌∷◌, refl, sym, ap, ◌∙◌, subst}
-use Rattle.btree_session.specs.declared.command.Command.{Command}
+use Rattle.btree_session.proofs.Common.{◌≡◌, ℕ, List, [], ◌∷◌, refl, sym, ap, ◌∙◌, subst, Command, MeansLine}
 use Rattle.btree_session.specs.declared.command.Command.TheVariants.{Insert, Get, Remove, Clear, Seek, Next, Prev, Put, Take}
 use Rattle.btree_session.specs.declared.line.Line.{Line}
 use Rattle.btree_session.specs.declared.line.Line.TheVariants as lines
 use Rattle.btree_session.specs.declared.line.Numbers.{Numbers}
 use Rattle.btree_session.specs.declared.line.Numbers.TheVariants.{Zero, One, Two}
 use Rattle.btree_session.specs.declared.question.Question.{Question}
-use Rattle.btree_session.specs.Line.{AreNumbers, MeansLine, Says, command_numbers, number_list}
+use Rattle.btree_session.specs.Line.{AreNumbers, Says, command_numbers, number_list}
 
 -- words are at most one list of numbers
 pub one_list : (ms ns : List ℕ) (words : List (List ℕ)) → AreNumbers ms words → AreNumbers ns words → ms ≡ ns

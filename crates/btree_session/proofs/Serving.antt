@@ -1,5 +1,6 @@
 -- Lines served one after another.
-use Rattle.std.proofs.Common.{◌≡◌, ℕ, ◌+◌, ◌<◌, List, [], ◌∷◌, ◌++◌, take, drop, length, add-one, Option, Some, None, IfSome, Result, Ok, Err, Bool, true, false, cond, inl, inr, refl, sym, ap, ◌∙◌, arith, append_assoc, append-nil, length-append, Vec}
+use Rattle.btree_session.proofs.Common.{◌≡◌, ℕ, ◌+◌, ◌<◌, List, [], ◌∷◌, ◌++◌, take, drop, length, Option, Some, None, Bool, true, false, cond, inl, inr, refl, sym, ap, ◌∙◌, arith, append_assoc, append-nil, length-append, Held, MeansLine, Content, Node}
+use Rattle.std.proofs.Common.{add-one, IfSome, Result, Ok, Err, Vec}
 use Rattle.std.specs.Prelude.{position, ◌==◌}
 use Rattle.std.proofs.lemmas.List.Quantifiers.{position-Some}
 use Rattle.std.specs.Io.BufRead.{take_through, drop_through, strip_last, DropsConsumable, DropsThrough}
@@ -10,10 +11,7 @@ use Rattle.btree_session.specs.declared.line.Line.{Line}
 use Rattle.btree_session.specs.declared.line.Line.TheVariants.{Other}
 use Rattle.btree_session.specs.declared.drive.Stop.{Stop}
 use Rattle.btree_session.specs.declared.drive.Stop.TheVariants.{NotACommand, Memory, Input, Output}
-use Rattle.btree_session.specs.Held.{Held}
-use Rattle.btree_session.specs.Line.{line_words, MeansLine}
-use Rattle.btree_store.specs.Content.{Content}
-use Rattle.btree_node.specs.declared.node.Node.{Node}
+use Rattle.btree_session.specs.Line.{line_words}
 use Rattle.btree_session.specs.Script.{AreMostLines, DrivesBytes, HasNoLine, IfInput, MayStopAfter, input_of, is_newline, lines_of, MayStopAnywhere, Does, EndsAfter, ReadsLine, Serves, StopsAt, UnlessOutput}
 use Rattle.btree_session.proofs.Lines.{lines_of-cons, cut_at_newline}
 

@@ -1,15 +1,15 @@
 -- The text of a well formed tree.
-use Rattle.std.proofs.Common.{◌≡◌, ℕ, zero, suc, ◌<◌, ◌≤◌, List, [], ◌∷◌, map, Option, Some, None, refl, ap, arith}
+use Rattle.btree_session.proofs.Common.{◌≡◌, ℕ, zero, suc, ◌<◌, ◌≤◌, List, [], ◌∷◌, map, Option, Some, None, refl, ap, arith, flat_map, TreeState, IsBTree, pairs_of, shape_under}
 use Rattle.std.proofs.lemmas.Bool.Decides.{nat_tests}
-use Rattle.std.specs.List.{flat_map, AllByRecursion}
+use Rattle.std.specs.List.{AllByRecursion}
 use Rattle.std.specs.Fmt.{decimal}
 use Rattle.std.specs.declared.cmp.Ordering.{Ordering}
 use Rattle.btree_view.specs.View.{NodeMap, size_of}
 use Rattle.btree_laws.specs.Represents.{Represents}
-use Rattle.btree_laws.specs.TreeState.{TreeState, IsBTree, node_map, pairs_of}
+use Rattle.btree_laws.specs.TreeState.{node_map}
 use Rattle.btree_laws.specs.WellFormed.{IsWellFormed, least_of}
 use Rattle.btree_laws.proofs.Trees.Represented.{height_below}
-use Rattle.btree_session.specs.Answer.{shape_under, shape_text, IsWritten, IsShapeOf, IsAnswer, answer_text}
+use Rattle.btree_session.specs.Answer.{shape_text, IsWritten, IsShapeOf, IsAnswer, answer_text}
 use Rattle.btree_session.specs.declared.question.Question.{Question}
 use Rattle.btree_session.specs.declared.question.Question.TheVariants as questions
 

@@ -1,26 +1,16 @@
 -- Steps of a session, by the contracts of its map.
-use Rattle.std.proofs.Common.{◌≡◌, ℕ, List, Option, Some, None, refl, sym, ap, ◌∙◌, option_map, subst, arith}
-use Rattle.std.specs.Cmp.{nat_cmp_total}
-use Rattle.std.specs.Ordering.{nat_cmp}
+use Rattle.btree_session.proofs.Common.{◌≡◌, ℕ, List, Option, Some, None, refl, sym, ap, ◌∙◌, option_map, subst, arith, nat_cmp_total, nat_cmp, found, Address, Cause, Content, Node, TreeState, IsBTree, pairs_of, HasPlace, has-place, Command, Reply, Nothing, Refused, Held, HoldsBack, IsHeldPlace, IsStep}
 use Rattle.std.specs.List.{insert}
-use Rattle.btree_item.specs.Pairs.{before, found, found_value, inserted, with_value}
-use Rattle.btree_item.specs.Address.{Address}
-use Rattle.btree_item.specs.declared.refused.Cause.{Cause}
+use Rattle.btree_item.specs.Pairs.{before, found_value, inserted, with_value}
 use Rattle.btree_item.specs.declared.refused.Cause.TheVariants.{Store, Count}
-use Rattle.btree_store.specs.Content.{Content}
-use Rattle.btree_node.specs.declared.node.Node.{Node}
-use Rattle.btree_laws.specs.TreeState.{Kept, TreeState, IsBTree, pairs_of, refused_once}
-use Rattle.btree_find.specs.Navigation.{HasPlace}
-use Rattle.btree_find.proofs.PlaceLemmas.{has-place, place-there}
+use Rattle.btree_laws.specs.TreeState.{Kept, refused_once}
+use Rattle.btree_find.proofs.PlaceLemmas.{place-there}
 use Rattle.btree_raw.specs.Insertion.{IsRefused}
 use Rattle.btree_raw.specs.Limit.{IsWithinLimit}
 use Rattle.btree_ext.specs.Insert.{IsRefusedAtGap, InsertsByKey}
-use Rattle.btree_session.specs.declared.command.Command.{Command}
 use Rattle.btree_session.specs.declared.command.Command.TheVariants.{Insert, Get}
-use Rattle.btree_session.specs.declared.command.Reply.{Reply}
-use Rattle.btree_session.specs.declared.command.Reply.TheVariants.{Nothing, Value, Refused}
-use Rattle.btree_session.specs.Held.{Held, HoldsBack}
-use Rattle.btree_session.specs.Machine.{SessionState, after_refusal, let_go, IsRefusable, MachineStep, value_reply, IsHeldPlace, Handles, IsStep}
+use Rattle.btree_session.specs.declared.command.Reply.TheVariants.{Value}
+use Rattle.btree_session.specs.Machine.{SessionState, after_refusal, let_go, IsRefusable, MachineStep, value_reply, Handles}
 
 -- the state of a session whose address has this place
 abbrev pub state_at : Held ℕ ℕ → Option ℕ → SessionState

@@ -1,9 +1,9 @@
 -- The words of a text, one after another.
-use Rattle.std.proofs.Common.{◌≡◌, ℕ, ◌+◌, ◌<◌, ◌≤◌, Bool, true, false, not, cond, List, [], ◌∷◌, take, drop, length, get_or, length-drop, refl, sym, ap, ◌∙◌, inl, inr, arith}
+use Rattle.btree_session.proofs.Common.{◌≡◌, ℕ, ◌+◌, ◌<◌, ◌≤◌, Bool, true, false, cond, List, [], ◌∷◌, take, drop, length, get_or, refl, sym, ap, ◌∙◌, inl, inr, arith, take_all, common_steps}
+use Rattle.std.proofs.Common.{not, length-drop}
 use Rattle.std.specs.Prelude.{filter, nat_lt, position, unwrap_or}
 use Rattle.std.specs.List.{slice_split, position_or_len, before_first, after_first}
-use Rattle.std.proofs.lemmas.List.{take_all, drop_all, drop_more}
-use Rattle.std.proofs.lemmas.Grind.{common_steps}
+use Rattle.std.proofs.lemmas.List.{drop_all, drop_more}
 use Rattle.std.proofs.lemmas.List.Splits.{slice_split_none, slice_split_first, slice_split-cons_yes}
 use Rattle.std.proofs.lemmas.List.Sums.{passes_at_first, fails_before_first, prefix_len-le-length}
 use Rattle.std.proofs.lemmas.Bool.{cases_lt}

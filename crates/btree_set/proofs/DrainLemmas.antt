@@ -1,15 +1,14 @@
 -- A drain of a map without values is one of its keys.
-use Rattle.std.proofs.Common.{◌≡◌, ◌∙◌, ℕ, zero, suc, Bool, true, false, List, [], ◌∷◌, ◌++◌, Option, Some, None, IfSome, map, option_map, drop, take, length, ◌<◌, arith, refl, sym, ap, subst}
+use Rattle.btree_set.proofs.Common.{◌≡◌, ◌∙◌, ℕ, Bool, true, false, List, [], ◌∷◌, Option, Some, None, IfSome, option_map, drop, length, ◌<◌, arith, refl, sym, ap, subst, keys_of, pairs_of, CallableOnEach, SetState, set_of}
+use Rattle.std.proofs.Common.{zero, suc, ◌++◌, map, take}
 use Rattle.std.proofs.lemmas.List.{length-append}
 use Rattle.std.specs.Iterator.{MakesProgress, at_most}
 use Rattle.std.specs.List.{FoldsTo}
-use Rattle.std.specs.Map.{keys_of}
 use Rattle.std.specs.Map.Calls.{CallableOnEachPair, SomeCallAtPair}
-use Rattle.btree_laws.specs.TreeState.{TreeState, pairs_of}
+use Rattle.btree_laws.specs.TreeState.{TreeState}
 use Rattle.btree_map.specs.Drain.{Asks as PairAsks, Selects as PairSelects, RunsTest as PairRunsTest, RunsOut as PairRunsOut, Yields as PairYields, if_same as if_same_pair, picked as picked_pairs}
 use Rattle.btree_map.proofs.DrainRuns.{cons-tail}
-use Rattle.btree_set.specs.Drain.{Asks, CallableOnEach, RunsOut, RunsTest, Selects, SomeCallAt, Yields, if_same, picked}
-use Rattle.btree_set.specs.Elements.{SetState, set_of}
+use Rattle.btree_set.specs.Drain.{Asks, RunsOut, RunsTest, Selects, SomeCallAt, Yields, if_same, picked}
 
 module _ {T : Type 0} where
   same-head : {x y : T} {xs ys : List T} → x ∷ xs ≡ y ∷ ys → x ≡ y

@@ -1,11 +1,8 @@
 -- How many elements the merges yield, at least and at most.
-use Rattle.std.proofs.Common.{◌+◌, ◌^◌, ◌<◌, ◌≤◌, ℕ, true, false, List, Option, None, Some, IfSome, length, arith}
-use Rattle.std.specs.Cmp.{IsTotalOrder}
+use Rattle.btree_set.proofs.Common.{◌+◌, ◌<◌, ◌≤◌, ℕ, true, false, List, Option, None, Some, IfSome, length, arith, IsTotalOrder, IsStrictlySortedBy, Ordering, difference, intersection, is_in, symmetric_difference, union}
+use Rattle.std.proofs.Common.{◌^◌}
 use Rattle.std.specs.Iterator.{UpTo, at_most}
-use Rattle.std.specs.List.Sorted.{IsStrictlySortedBy}
 use Rattle.std.specs.Option.{SomeIff}
-use Rattle.std.specs.declared.cmp.Ordering.{Ordering}
-use Rattle.btree_set.specs.Merges.{difference, intersection, is_in, symmetric_difference, union}
 use Rattle.btree_set.proofs.MergeLemmas.{filter-both, intersection-few, merged-few, union-many}
 
 pub up-to-sum : (o : Option ℕ) (n m k : ℕ) → SomeIff o (n + m < 2 ^ 64) (n + m) → k ≤ n + m → IfSome o (UpTo (at_most k))

@@ -1,14 +1,13 @@
 -- The keys of a map's list, as the elements of a set.
-use Rattle.std.proofs.Common.{◌≡◌, ◌∙◌, ◌↔◌, ℕ, ◌+◌, Bool, true, false, not, cond, IsSome, IsTrue, List, [], ◌∷◌, Option, Some, None, is_some, option_map, if◌then◌else◌, IfNone, IfSome, ◌&&◌, set, refl, sym, ap, subst, ◌≤◌}
+use Rattle.btree_set.proofs.Common.{◌≡◌, ◌∙◌, ℕ, ◌+◌, Bool, true, false, not, cond, List, [], ◌∷◌, Option, Some, None, is_some, option_map, IfSome, ◌&&◌, refl, sym, ap, subst, ◌≤◌, filter, keys_of, is_eq, Less, Equal, Greater, Ordering, pairs_of, SetState, set_of, stored, inserted_all}
+use Rattle.std.proofs.Common.{◌↔◌, IsSome, IsTrue, if◌then◌else◌, IfNone, set}
 use Rattle.std.proofs.lemmas.List.{map-append, map-set}
 use Rattle.std.proofs.lemmas.Map.{keys-set_value}
 use Rattle.std.proofs.lemmas.Map.Entries.{length-keys_of}
 use Rattle.std.specs.Cmp.Lexicographic.{pointwise, slice_cmp, slice_partial_cmp}
-use Rattle.std.specs.List.{count_by, filter, find, insert, remove}
-use Rattle.std.specs.Map.{keys_of, lookup_entry}
-use Rattle.std.specs.Ordering.{is_eq, is_lt, ordering_then, partial_ordering_then}
-use Rattle.std.specs.declared.cmp.Ordering.TheVariants.{Less, Equal, Greater}
-use Rattle.std.specs.declared.cmp.Ordering.{Ordering}
+use Rattle.std.specs.List.{count_by, find, insert, remove}
+use Rattle.std.specs.Map.{lookup_entry}
+use Rattle.std.specs.Ordering.{is_lt, ordering_then, partial_ordering_then}
 use Rattle.btree_item.specs.Pairs as pairs
 use Rattle.std.specs.declared.ops.Bound.{Bound}
 use Rattle.btree_map.specs.Splitting as split
@@ -20,7 +19,7 @@ use Rattle.btree_store.specs.Content.{Content}
 use Rattle.btree_item.specs.declared.refused.Cause.{Cause}
 use Rattle.btree_item.specs.declared.refused.Cause.TheVariants.{Count, Store}
 use Rattle.btree_node.specs.declared.node.Node.{Node}
-use Rattle.btree_laws.specs.TreeState.{Kept, TreeState, pairs_of}
+use Rattle.btree_laws.specs.TreeState.{Kept, TreeState}
 use Rattle.btree_raw.specs.Insertion as raw
 use Rattle.btree_ext.specs.Insert.{IsRefusedAtGap, LeavesPairs}
 use Rattle.btree_ext.specs.Replace as replace
@@ -29,8 +28,8 @@ use Rattle.btree_ext.specs.Remove.{RemovesBy, RemovesByKey, RemovesIfThereBy}
 use Rattle.btree_ext.specs.Update.{RemovesIfThere}
 use Rattle.btree_map.specs.Comparison.{pair_cmp, pair_eq, pair_partial_cmp}
 use Rattle.btree_map.specs.Extension as many
-use Rattle.btree_set.specs.Elements.{IsRefused, LeavesElements, SetState, before, inserted, removed, replaced, set_of, stored}
-use Rattle.btree_set.specs.Extension.{IsRefusedInTurn, Moves, inserted_all}
+use Rattle.btree_set.specs.Elements.{IsRefused, LeavesElements, before, inserted, removed, replaced}
+use Rattle.btree_set.specs.Extension.{IsRefusedInTurn, Moves}
 use Rattle.btree_set.specs.Extension as sets
 
 module _ {T V : Type 0} where

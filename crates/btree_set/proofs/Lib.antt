@@ -1,3 +1,4 @@
+pub mod Common
 pub mod KeyLemmas
 pub mod MergeLemmas
 pub mod MergedLemmas

@@ -1,12 +1,9 @@
 -- The merges of two lists that ascend strictly under a lawful comparison: each merge ascends strictly, and has the
 -- elements that its name says. An element is in a list if an `Equal` one is.
-use Rattle.std.proofs.Common.{◌≡◌, ◌∙◌, true, false, not, List, ◌&&◌, ◌||◌, ap}
+use Rattle.btree_set.proofs.Common.{◌≡◌, ◌∙◌, true, false, not, List, ◌&&◌, ap, IsTotalOrder, IsStrictlySortedBy, Ordering, difference, intersection, is_in, symmetric_difference, union}
+use Rattle.std.proofs.Common.{◌||◌}
 use Rattle.std.proofs.Math.Bool.{xor}
 use Rattle.std.proofs.lemmas.List.Kept.{IsStrictlySortedBy-filter}
-use Rattle.std.specs.Cmp.{IsTotalOrder}
-use Rattle.std.specs.List.Sorted.{IsStrictlySortedBy}
-use Rattle.std.specs.declared.cmp.Ordering.{Ordering}
-use Rattle.btree_set.specs.Merges.{difference, intersection, is_in, symmetric_difference, union}
 use Rattle.btree_set.proofs.MergedLemmas.{in-alike, in-apart, in-filter, in-union, merge-ascends, or-turned, xor-turned}
 
 module _ {T : Type 0} {cmp : T → T → Ordering} (laws : IsTotalOrder cmp) (first second : List T) (up : IsStrictlySortedBy cmp first) (rise : IsStrictlySortedBy cmp second) where

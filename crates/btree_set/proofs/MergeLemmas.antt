@@ -1,13 +1,9 @@
 -- One turn of a merge of two ascending lists.
-use Rattle.std.proofs.Common.{◌≡◌, ◌∙◌, suc, ◌+◌, ◌≤◌, Bool, true, false, not, cond, List, [], ◌∷◌, length, refl, ap, arith}
-use Rattle.std.specs.Cmp.{IsTotalOrder}
-use Rattle.std.specs.List.{AllByRecursion, filter}
-use Rattle.std.specs.List.Sorted.{IsStrictlySortedBy}
-use Rattle.std.specs.Ordering.{is_eq, ordering_reverse}
+use Rattle.btree_set.proofs.Common.{◌≡◌, ◌∙◌, ◌+◌, ◌≤◌, Bool, true, false, not, cond, List, [], ◌∷◌, length, refl, ap, arith, IsTotalOrder, filter, IsStrictlySortedBy, is_eq, Ordering, Less, Equal, Greater, difference, intersection, is_in}
+use Rattle.std.proofs.Common.{suc}
+use Rattle.std.specs.List.{AllByRecursion}
+use Rattle.std.specs.Ordering.{ordering_reverse}
 use Rattle.std.specs.Set.{sorted_merge}
-use Rattle.std.specs.declared.cmp.Ordering.{Ordering}
-use Rattle.std.specs.declared.cmp.Ordering.TheVariants.{Less, Equal, Greater}
-use Rattle.btree_set.specs.Merges.{difference, intersection, is_in}
 use Rattle.btree_walk.proofs.BoundLemmas.{all-so}
 use Rattle.btree_laws.proofs.LookUp.KeyInList.{reversed, reversed-back}
 

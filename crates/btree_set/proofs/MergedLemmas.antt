@@ -1,15 +1,10 @@
 -- What a merge of two ascending lists has: it ascends, and an element is in it by whether it is in each of the lists.
-use Rattle.std.proofs.Common.{◌≡◌, ◌∙◌, Bool, true, false, cond, List, [], ◌∷◌, is_some, Some, ◌&&◌, ◌||◌, refl, sym, ap}
+use Rattle.btree_set.proofs.Common.{◌≡◌, ◌∙◌, Bool, true, false, cond, List, [], ◌∷◌, is_some, Some, ◌&&◌, refl, sym, ap, IsTotalOrder, filter, IsStrictlySortedBy, is_eq, Ordering, Less, Equal, is_in}
+use Rattle.std.proofs.Common.{◌||◌}
 use Rattle.std.proofs.Math.Bool.{or-false, xor}
 use Rattle.std.proofs.lemmas.Cmp.{alike_right, tied_back}
-use Rattle.std.specs.Cmp.{IsTotalOrder}
-use Rattle.std.specs.List.{AllByRecursion, filter, find}
-use Rattle.std.specs.List.Sorted.{IsStrictlySortedBy}
-use Rattle.std.specs.Ordering.{is_eq}
+use Rattle.std.specs.List.{AllByRecursion, find}
 use Rattle.std.specs.Set.{sorted_merge}
-use Rattle.std.specs.declared.cmp.Ordering.{Ordering}
-use Rattle.std.specs.declared.cmp.Ordering.TheVariants.{Less, Equal}
-use Rattle.btree_set.specs.Merges.{is_in}
 use Rattle.btree_set.proofs.MergeLemmas.{above-equal, above-more, absent, by-order, merge-equal, merge-greater, merge-less, rest-up}
 use Rattle.btree_find.specs.CallerLaws.{equal-by}
 use Rattle.btree_laws.proofs.LookUp.KeyInList.{reversed-back}

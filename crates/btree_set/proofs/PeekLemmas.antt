@@ -1,10 +1,9 @@
 -- The elements that an iterator shows before it gives them.
-use Rattle.std.proofs.Common.{◌≡◌, ◌∙◌, ◌^◌, ◌<◌, [], List, Option, None, Some, IfNone, length, option_copied, sym, arith}
+use Rattle.btree_set.proofs.Common.{◌≡◌, ◌∙◌, ◌<◌, [], List, Option, None, Some, length, sym, arith, IsStrictlySortedBy, Ordering}
+use Rattle.std.proofs.Common.{◌^◌, IfNone, option_copied}
 use Rattle.std.specs.Borrow.{Bor}
 use Rattle.std.specs.Iterator.{YieldsFirstRef}
 use Rattle.std.specs.List.{cons_option}
-use Rattle.std.specs.List.Sorted.{IsStrictlySortedBy}
-use Rattle.std.specs.declared.cmp.Ordering.{Ordering}
 
 module _ {T : Type 0} where
   -- what was taken from the list goes before what is left

@@ -1,12 +1,8 @@
 -- One turn of each merge, as the iterators take it.
-use Rattle.std.proofs.Common.{◌≡◌, ◌∙◌, true, false, List, [], ◌∷◌, Option, None, Some, drop, length, option_copied, slice_get, refl, sym, ap, subst, arith}
+use Rattle.btree_set.proofs.Common.{◌≡◌, ◌∙◌, true, false, List, [], ◌∷◌, Option, None, Some, drop, length, slice_get, refl, sym, ap, subst, arith, IsTotalOrder, IsStrictlySortedBy, Ordering, Less, Equal, Greater, difference, intersection, symmetric_difference, union}
+use Rattle.std.proofs.Common.{option_copied}
 use Rattle.std.specs.Borrow.{Bor}
-use Rattle.std.specs.Cmp.{IsTotalOrder}
 use Rattle.std.specs.Iterator.{MakesProgress, YieldsFirstRef, item_count}
-use Rattle.std.specs.List.Sorted.{IsStrictlySortedBy}
-use Rattle.std.specs.declared.cmp.Ordering.{Ordering}
-use Rattle.std.specs.declared.cmp.Ordering.TheVariants.{Less, Equal, Greater}
-use Rattle.btree_set.specs.Merges.{difference, intersection, symmetric_difference, union}
 use Rattle.btree_set.proofs.MergeLemmas.{difference-equal, difference-greater, difference-less, difference-none, intersection-equal, intersection-greater, intersection-less, intersection-none, merge-equal, merge-greater, merge-less, merge-none}
 
 module _ {T : Type 0} where

@@ -1,22 +1,6 @@
 -- A fault that the walk of the validator answers in a well formed tree is one of the arguments.
-use Rattle.std.proofs.Common.{◌≡◌, ◌≤◌, ◌<◌, ◌∙◌, ◌+◌, ℕ, zero, suc, length, is_some, true, false, Option, Some, None, Result, Ok, Err, option_copied, slice_get, refl, sym, ap, subst, arith}
-use Rattle.std.specs.Prelude.{⊤, IfSome}
-use Rattle.std.specs.declared.cmp.Ordering.{Ordering}
-use Rattle.btree_item.specs.declared.fault.Fault.{Fault}
-use Rattle.btree_item.specs.declared.fault.Fault.TheVariants.{NoNode, WrongParent, Overflowing, Underflowing, EmptyRoot, Unsorted, BelowSeparator, AboveSeparator, TooDeep, NotBalanced, WrongLength, Unreachable, OverLimit}
-use Rattle.btree_node.specs.declared.node.Node.{Node}
-use Rattle.btree_store.specs.Content.{Content}
-use Rattle.btree_view.specs.Checks.{IsNodeVerdict}
-use Rattle.btree_view.specs.Separators.{separator_after, separator_before}
-use Rattle.btree_view.specs.View.{View, children_of}
-use Rattle.btree_laws.specs.Focus.Subtree.{Subtree, count_at, items_under, view_at}
-use Rattle.btree_laws.specs.TreeState.{views}
-use Rattle.btree_laws.proofs.LookUp.KeyInList.{rises}
-use Rattle.btree_valid.specs.Faults.{Allows, AreBetween}
-use Rattle.btree_valid.specs.Positions.{nearest_of}
-use Rattle.btree_valid.specs.Spots.{BeginsAt, BlamesAt, CanMeet, IsAnswerFor, freed}
-use Rattle.btree_valid.specs.declared.faults.Met.{Met}
-use Rattle.btree_valid.specs.declared.faults.Spot.{Spot}
+use Rattle.btree_valid.proofs.Common.{◌≡◌, ◌≤◌, ◌<◌, ◌∙◌, ◌+◌, ℕ, zero, suc, length, is_some, true, false, Option, Some, None, Result, Ok, Err, option_copied, slice_get, refl, sym, ap, subst, arith, ⊤, IfSome, Ordering, Fault, NoNode, WrongParent, Overflowing, Underflowing, EmptyRoot, Unsorted, BelowSeparator, AboveSeparator, TooDeep, NotBalanced, WrongLength, Unreachable, OverLimit, Node, Content, IsNodeVerdict, separator_after, separator_before, View, children_of, Subtree, count_at, items_under, view_at, views, rises, Allows, AreBetween, nearest_of, BeginsAt, BlamesAt, CanMeet, Met, Spot}
+use Rattle.btree_valid.specs.Spots.{IsAnswerFor, freed}
 use Rattle.btree_valid.proofs.FaultLemmas.{not-leaf, own-is}
 use Rattle.btree_valid.proofs.SuitsLemmas.{ChildAt, child-at, parts-count}
 use Rattle.btree_valid.proofs.VerdictLemmas.{own-blamed}

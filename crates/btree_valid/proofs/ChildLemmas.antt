@@ -1,7 +1,6 @@
 -- The children of a node by their index.
-use Rattle.std.proofs.Common.{◌≡◌, ◌≤◌, ◌<◌, ◌∷◌, [], ℕ, zero, suc, List, length, IsTrue, Some, slice_get, arith}
+use Rattle.btree_valid.proofs.Common.{◌≡◌, ◌≤◌, ◌<◌, ◌∷◌, [], ℕ, zero, suc, List, length, IsTrue, Some, slice_get, arith, View, children_of, internal, leaf, size_of}
 use Rattle.btree_view.specs.Edits.{is_internal}
-use Rattle.btree_view.specs.View.{View, children_of, internal, leaf, size_of}
 use Rattle.btree_laws.proofs.Paths.SiblingNumbers.{children-count}
 
 found-below : {B : Type 0} (xs : List B) (index : ℕ) (x : B) → Some x ≡ slice_get xs index → index < length xs

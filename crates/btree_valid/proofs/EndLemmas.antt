@@ -1,27 +1,13 @@
 -- What the walk of the validator from a start has met, if it finds no fault.
-use Rattle.std.proofs.Common.{◌<◌, ◌≡◌, ◌∙◌, ◌+◌, ◌≤◌, ◌∷◌, ◌++◌, [], ℕ, zero, suc, inl, inr, List, length, map, Option, Some, None, Result, Ok, Err, option_copied, refl, sym, ap, subst, arith}
-use Rattle.std.specs.Cmp.{IsTotalOrder}
+use Rattle.btree_valid.proofs.Common.{◌<◌, ◌≡◌, ◌∙◌, ◌+◌, ◌≤◌, ◌∷◌, ◌++◌, [], ℕ, zero, suc, inl, inr, List, length, map, Option, Some, None, Result, Ok, Err, option_copied, refl, sym, ap, subst, arith, IsTotalOrder, AllByRecursion, flat_map, IfSome, Ordering, Fault, Node, Content, NodeMap, children_in, Holds, Subtree, id_of, items_under, Represents, numbers_under, views, represented-is, represents-of, IsLeafDepth, IsMetBelow, root_spot, FindsAt, MeetsAt, Suits, numbers_met, NamesTree, Met, Spot}
 use Rattle.std.specs.FinMap as finite
-use Rattle.std.specs.List.{AllByRecursion, flat_map}
 use Rattle.std.specs.Option.{unwrap_or}
-use Rattle.std.specs.Prelude.{IfErr, IfSome}
-use Rattle.std.specs.declared.cmp.Ordering.{Ordering}
-use Rattle.btree_item.specs.declared.fault.Fault.{Fault}
-use Rattle.btree_node.specs.declared.node.Node.{Node}
-use Rattle.btree_store.specs.Content.{Content}
-use Rattle.btree_view.specs.View.{NodeMap, children_in}
-use Rattle.btree_laws.specs.Focus.Subtree.{Holds, Subtree, id_of, items_under}
-use Rattle.btree_laws.specs.Represents.{Represents, numbers_under}
-use Rattle.btree_laws.specs.TreeState.{views}
-use Rattle.btree_laws.proofs.Trees.Represented.{represented-is}
-use Rattle.btree_laws.proofs.Trees.Subtrees.{represents-of}
+use Rattle.std.specs.Prelude.{IfErr}
 use Rattle.btree_valid.specs.Names.{IsFirstLevel, Knows, NamesAt, spotted}
 use Rattle.btree_valid.specs.PositionLaws.{leaf-depth-once, met-once}
-use Rattle.btree_valid.specs.Positions.{HasNoFault, IsFirstFault, IsLeafDepth, IsMetBelow, root_spot, start_spot}
-use Rattle.btree_valid.specs.Spots.{FindsAt, HasFoundPart, Meets, MeetsAt, Suits}
-use Rattle.btree_valid.specs.Verdicts.{items_met, numbers_met, HasMetTree, IsVerdictBelow, NamesTree}
-use Rattle.btree_valid.specs.declared.faults.Met.{Met}
-use Rattle.btree_valid.specs.declared.faults.Spot.{Spot}
+use Rattle.btree_valid.specs.Positions.{HasNoFault, IsFirstFault, start_spot}
+use Rattle.btree_valid.specs.Spots.{HasFoundPart, Meets}
+use Rattle.btree_valid.specs.Verdicts.{items_met, HasMetTree, IsVerdictBelow}
 use Rattle.btree_valid.proofs.PartNames.{StandsAt, leftmost, part-first, part-passes}
 use Rattle.btree_valid.proofs.TreeLemmas.{numbers-low, retarget}
 

@@ -1,9 +1,8 @@
 -- The tests by which a walk enters a node.
-use Rattle.std.proofs.Common.{◌≡◌, ◌<◌, ◌≤◌, ◌+◌, ℕ, true, false, not, eqb, leb, Option, Some, None, IsTrue, refl, ap, arith}
+use Rattle.btree_valid.proofs.Common.{◌≡◌, ◌<◌, ◌≤◌, ◌+◌, ℕ, true, false, Option, Some, None, IsTrue, refl, ap, arith, nat_tests, View, most_of, parent_of, size_of, least_allowed}
+use Rattle.std.proofs.Common.{not, eqb, leb}
 use Rattle.std.specs.Option.{option_eq}
-use Rattle.std.proofs.lemmas.Bool.Decides.{nat_tests}
-use Rattle.btree_view.specs.View.{View, most_of, parent_of, size_of}
-use Rattle.btree_laws.specs.WellFormed.{excess_allowed, least_allowed}
+use Rattle.btree_laws.specs.WellFormed.{excess_allowed}
 use Rattle.btree_valid.specs.OffByOne.{MayEnter}
 
 same-number : (m n : ℕ) → eqb m n ≡ true → m ≡ n

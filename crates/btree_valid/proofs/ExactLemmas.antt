@@ -1,27 +1,11 @@
 -- What the walk of the validator has found at a node, and after each of its children.
-use Rattle.std.proofs.Common.{◌≡◌, ◌≤◌, ◌<◌, ◌∷◌, ◌++◌, [], ◌∙◌, ◌+◌, ℕ, zero, suc, inl, inr, List, length, length-append, map, is_some, true, false, Option, Some, Result, Ok, Err, option_copied, slice_get, refl, sym, ap, subst, arith}
+use Rattle.btree_valid.proofs.Common.{◌≡◌, ◌≤◌, ◌<◌, ◌∷◌, ◌++◌, [], ◌∙◌, ◌+◌, ℕ, zero, suc, inl, inr, List, length, length-append, map, is_some, true, false, Option, Some, Result, Ok, Err, option_copied, slice_get, refl, sym, ap, subst, arith, IsTotalOrder, ⊤, IfSome, Ordering, Fault, Node, Content, IsNodeVerdict, separator_after, separator_before, View, children_of, internal, leaf, size_of, total, Subtree, id_of, items_under, views, Rises, ascends, AreBetween, nearest_of, CanMeet, FindsAt, Suits, least_between, Met, Spot}
 use Rattle.std.proofs.lemmas.List.{length-map}
 use Rattle.std.proofs.lemmas.Option.{slice_get_within}
-use Rattle.std.specs.Cmp.{IsTotalOrder}
 use Rattle.std.specs.Option.{option_map}
-use Rattle.std.specs.Prelude.{⊤, ◌⊎◌, IfOk, IfSome}
-use Rattle.std.specs.declared.cmp.Ordering.{Ordering}
-use Rattle.btree_item.specs.declared.fault.Fault.{Fault}
-use Rattle.btree_node.specs.declared.node.Node.{Node}
-use Rattle.btree_store.specs.Content.{Content}
-use Rattle.btree_view.specs.Checks.{IsNodeVerdict}
-use Rattle.btree_view.specs.Separators.{separator_after, separator_before}
-use Rattle.btree_view.specs.View.{View, children_of, internal, leaf, size_of}
-use Rattle.btree_laws.specs.Lists.{total}
-use Rattle.btree_laws.specs.Focus.Subtree.{Subtree, id_of, items_under}
-use Rattle.btree_laws.specs.TreeState.{views}
-use Rattle.btree_laws.proofs.LookUp.KeyInList.{Rises, ascends}
+use Rattle.std.specs.Prelude.{◌⊎◌, IfOk}
 use Rattle.btree_laws.proofs.Paths.Frames.{total-append}
-use Rattle.btree_valid.specs.Faults.{AreBetween}
-use Rattle.btree_valid.specs.Positions.{nearest_of}
-use Rattle.btree_valid.specs.Spots.{CanMeet, FindsAt, HasFoundPart, MeetsLeaf, Suits, WasMore, least_between}
-use Rattle.btree_valid.specs.declared.faults.Met.{Met}
-use Rattle.btree_valid.specs.declared.faults.Spot.{Spot}
+use Rattle.btree_valid.specs.Spots.{HasFoundPart, MeetsLeaf, WasMore}
 use Rattle.btree_valid.proofs.VerdictLemmas.{least-one}
 use Rattle.btree_valid.proofs.FoundLemmas.{IsChecked, RowSuits, all-filled, checked, join}
 use Rattle.btree_valid.proofs.SuitsLemmas.{items-total, numbers-total, numbers_in, parts_under}

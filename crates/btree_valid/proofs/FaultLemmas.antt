@@ -1,24 +1,7 @@
 -- What the walk of the validator has met at a node, and after each of its children.
-use Rattle.std.proofs.Common.{◌≡◌, ◌≤◌, ◌<◌, ◌∷◌, [], ◌∙◌, ◌+◌, ℕ, zero, suc, List, length, drop, is_some, true, false, Some, None, Result, Ok, Err, option_copied, slice_get, refl, sym, ap, subst, arith}
+use Rattle.btree_valid.proofs.Common.{◌≡◌, ◌≤◌, ◌<◌, ◌∷◌, [], ◌∙◌, ◌+◌, ℕ, zero, suc, List, length, drop, is_some, true, false, Some, None, Result, Ok, Err, option_copied, slice_get, refl, sym, ap, subst, arith, ⊤, IfSome, Ordering, Fault, Node, Content, IsNodeVerdict, separator_after, separator_before, View, children_of, size_of, total, Subtree, count_at, items_under, view_at, numbers_under, views, top-view, view-size, nearest_of, BeginsAt, CanMeet, MeetsAt, Suits, Met, Spot}
 use Rattle.std.proofs.Math.ListN.{drop_of_length-le}
-use Rattle.std.specs.Prelude.{⊤, IfSome}
-use Rattle.std.specs.declared.cmp.Ordering.{Ordering}
-use Rattle.btree_item.specs.declared.fault.Fault.{Fault}
-use Rattle.btree_node.specs.declared.node.Node.{Node}
-use Rattle.btree_store.specs.Content.{Content}
-use Rattle.btree_view.specs.Checks.{IsNodeVerdict}
-use Rattle.btree_view.specs.Separators.{separator_after, separator_before}
-use Rattle.btree_view.specs.View.{View, children_of, size_of}
-use Rattle.btree_laws.specs.Lists.{total}
-use Rattle.btree_laws.specs.Focus.Subtree.{Subtree, count_at, items_under, view_at}
-use Rattle.btree_laws.specs.Represents.{numbers_under}
-use Rattle.btree_laws.specs.TreeState.{views}
-use Rattle.btree_laws.proofs.Paths.Frames.{top-view}
-use Rattle.btree_laws.proofs.Trees.Sizes.{view-size}
-use Rattle.btree_valid.specs.Positions.{nearest_of}
-use Rattle.btree_valid.specs.Spots.{BeginsAt, CanMeet, HasMet, IsFewer, Meets, MeetsAt, Suits}
-use Rattle.btree_valid.specs.declared.faults.Met.{Met}
-use Rattle.btree_valid.specs.declared.faults.Spot.{Spot}
+use Rattle.btree_valid.specs.Spots.{HasMet, IsFewer, Meets}
 use Rattle.btree_valid.proofs.SuitsLemmas.{ChildAt, all-suit, child-at, items-total, numbers-total, numbers_in, parts-count, parts_under}
 use Rattle.btree_valid.proofs.VerdictLemmas.{own-passes}
 

@@ -1,20 +1,11 @@
 -- The children that the walk of the validator has passed make a part that suits.
-use Rattle.std.proofs.Common.{◌≡◌, ◌≤◌, ◌<◌, ◌∷◌, ◌++◌, [], ◌-◌, ℕ, suc, inl, inr, List, length, map, Option, Some, None, Result, Ok, refl, sym, subst, arith, append-nil}
+use Rattle.btree_valid.proofs.Common.{◌≡◌, ◌≤◌, ◌<◌, ◌∷◌, ◌++◌, [], ◌-◌, ℕ, suc, inl, inr, List, length, map, Option, Some, None, Result, Ok, refl, sym, subst, arith, IsTotalOrder, AllByRecursion, keys_of, ⊤, IfSome, IsFalse, Ordering, Less, Fault, FirstFailed, IsNodeVerdict, PassesCheck, is_judged_as_root, node_faults, NodeMap, View, items_of, most_of, parent_of, size_of, Holds, IsFilled, Subtree, count_at, items_under, later_items, Rises, rises, AreBetween, Suits, least_between}
+use Rattle.std.proofs.Common.{append-nil}
 use Rattle.std.proofs.lemmas.Map.Entries.{length-keys_of}
-use Rattle.std.specs.Cmp.{IsTotalOrder}
-use Rattle.std.specs.List.{AllByRecursion}
-use Rattle.std.specs.Map.{keys_of}
-use Rattle.std.specs.Prelude.{⊤, IfSome, IsFalse, IsTrue, slice_get}
-use Rattle.std.specs.declared.cmp.Ordering.{Ordering}
-use Rattle.std.specs.declared.cmp.Ordering.TheVariants.{Less}
-use Rattle.btree_item.specs.declared.fault.Fault.{Fault}
-use Rattle.btree_view.specs.Checks.{BeginsAbove, EndsBelow, FirstFailed, IsNodeVerdict, PassesCheck, is_judged_as_root, node_faults}
-use Rattle.btree_view.specs.View.{NodeMap, View, items_of, most_of, parent_of, size_of}
-use Rattle.btree_laws.specs.Focus.Subtree.{Holds, IsFilled, IsFilledBelow, Subtree, count_at, items_under, later_items}
-use Rattle.btree_laws.proofs.LookUp.KeyInList.{Rises, rises}
+use Rattle.std.specs.Prelude.{IsTrue, slice_get}
+use Rattle.btree_view.specs.Checks.{BeginsAbove, EndsBelow}
+use Rattle.btree_laws.specs.Focus.Subtree.{IsFilledBelow}
 use Rattle.btree_laws.proofs.Paths.Frames.{AllByRecursion-append}
-use Rattle.btree_valid.specs.Faults.{AreBetween}
-use Rattle.btree_valid.specs.Spots.{Suits, least_between}
 
 -- if the answer is Ok, each check passed
 all-passed : (Passes : Fault → Type 0) (faults : List Fault) (answer : Result ⊤ Fault) → answer ≡ Ok tt → FirstFailed Passes faults answer → AllByRecursion Passes faults

@@ -1,3 +1,4 @@
+pub mod Common
 pub mod OrderLemmas
 pub mod PassLemmas
 pub mod EnterLemmas

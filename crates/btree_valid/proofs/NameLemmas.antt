@@ -1,23 +1,9 @@
 -- The fault that the walk of the validator answers is the first from its spot on.
-use Rattle.std.proofs.Common.{◌≡◌, ◌∙◌, ◌+◌, ◌<◌, ◌≤◌, ◌∷◌, [], ℕ, zero, suc, inl, inr, List, length, is_some, true, false, Option, Some, None, Result, Ok, Err, option_copied, slice_get, refl, sym, ap, subst, arith}
-use Rattle.std.specs.Cmp.{IsTotalOrder}
-use Rattle.std.specs.Prelude.{⊤, IfErr, IfSome}
-use Rattle.std.specs.declared.cmp.Ordering.{Ordering}
-use Rattle.btree_item.specs.declared.fault.Fault.{Fault}
-use Rattle.btree_item.specs.declared.fault.Fault.TheVariants.{NoNode, TooDeep, NotBalanced}
-use Rattle.btree_node.specs.declared.node.Node.{Node}
-use Rattle.btree_store.specs.Content.{Content}
-use Rattle.btree_view.specs.Checks.{IsNodeVerdict}
-use Rattle.btree_view.specs.Separators.{separator_after, separator_before}
-use Rattle.btree_view.specs.View.{View, children_of}
-use Rattle.btree_laws.specs.Focus.Subtree.{Subtree, id_of}
-use Rattle.btree_laws.specs.TreeState.{views}
+use Rattle.btree_valid.proofs.Common.{◌≡◌, ◌∙◌, ◌+◌, ◌<◌, ◌≤◌, ◌∷◌, [], ℕ, zero, suc, inl, inr, List, length, is_some, true, false, Option, Some, None, Result, Ok, Err, option_copied, slice_get, refl, sym, ap, subst, arith, IsTotalOrder, ⊤, IfSome, Ordering, Fault, NoNode, TooDeep, NotBalanced, Node, Content, IsNodeVerdict, separator_after, separator_before, View, children_of, Subtree, id_of, views, IsFirstLeaf, IsMetBelow, Leads, Spotted, nearest_of, step_down, CanMeet, Met, Spot}
+use Rattle.std.specs.Prelude.{IfErr}
 use Rattle.btree_valid.specs.Names.{IsFirstLevel, Knows, NamesAt, spotted}
 use Rattle.btree_valid.specs.PositionLaws.{leaf-depth-once, met-once}
-use Rattle.btree_valid.specs.Positions.{IsFirstFaultAmong, IsFirstLeaf, IsMetBelow, Leads, Spotted, nearest_of, step_down}
-use Rattle.btree_valid.specs.Spots.{CanMeet}
-use Rattle.btree_valid.specs.declared.faults.Met.{Met}
-use Rattle.btree_valid.specs.declared.faults.Spot.{Spot}
+use Rattle.btree_valid.specs.Positions.{IsFirstFaultAmong}
 use Rattle.btree_valid.proofs.ExactLemmas.{AllSuit, AreFound, ChildSuits, IsDone}
 use Rattle.btree_valid.proofs.PartNames.{StandsAt, Verdict, all-checked, balance-fails, child-first, deep-fails, first-below, from-child, here-first, leftmost, own-fails, part-first, part-passes, unused-fails}
 

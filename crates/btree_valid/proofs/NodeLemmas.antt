@@ -1,18 +1,7 @@
 -- A node of a store that a walk enters.
-use Rattle.std.proofs.Common.{◌≡◌, ◌∙◌, ◌-◌, ◌<◌, ◌≤◌, ℕ, zero, suc, List, length, map, IsTrue, false, true, Option, Some, None, option_map, option_copied, slice_get, refl, sym, ap, subst, arith}
+use Rattle.btree_valid.proofs.Common.{◌≡◌, ◌∙◌, ◌-◌, ◌<◌, ◌≤◌, ℕ, zero, suc, List, length, map, IsTrue, false, true, Option, Some, None, option_map, option_copied, slice_get, refl, sym, ap, subst, arith, IfSome, Ordering, Content, view_of, Node, NodeMap, View, branches_of, children_of, internal, items_of, leaf, parent_of, times_listed, Represents, numbers_under, represented, views, IsNearlySized, one-self, CanOrder, CanPassUnder, Orders, PassesUnder}
 use Rattle.std.specs.FinMap as finite
-use Rattle.std.specs.Prelude.{IfSome}
-use Rattle.std.specs.declared.cmp.Ordering.{Ordering}
-use Rattle.btree_store.specs.Content.{Content}
-use Rattle.btree_node.specs.Node.{view_of}
-use Rattle.btree_node.specs.declared.node.Node.{Node}
-use Rattle.btree_view.specs.View.{NodeMap, View, branches_of, children_of, internal, items_of, leaf, parent_of}
-use Rattle.btree_laws.specs.Lists.{times_listed}
-use Rattle.btree_laws.specs.Represents.{Represents, numbers_under, represented}
-use Rattle.btree_laws.specs.TreeState.{views}
-use Rattle.btree_laws.specs.WellFormed.{IsNearlySized}
-use Rattle.btree_laws.proofs.Paths.Frames.{one-self}
-use Rattle.btree_valid.specs.OffByOne.{CanOrder, CanPassUnder, MayEnter, Orders, PassesUnder}
+use Rattle.btree_valid.specs.OffByOne.{MayEnter}
 use Rattle.btree_valid.specs.declared.off_by_one.Walk.{Walk}
 use Rattle.btree_valid.proofs.PassLemmas.{IsInNode, first-can, first-passed, leaf-can, leaf-passed}
 

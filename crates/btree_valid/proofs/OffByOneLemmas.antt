@@ -1,25 +1,12 @@
 -- A walk of all nodes decides whether the tree is off by one at a node.
-use Rattle.std.proofs.Common.{◌≡◌, [], ◌∙◌, ◌+◌, ◌<◌, ℕ, suc, List, length, IsTrue, Bool, false, true, eqb, inl, inr, Option, Some, None, IsSome, option_map, refl, sym, subst, arith}
-use Rattle.std.proofs.lemmas.Bool.Decides.{nat_tests}
-use Rattle.std.specs.Cmp.{IsTotalOrder}
+use Rattle.btree_valid.proofs.Common.{◌≡◌, [], ◌∙◌, ◌+◌, ◌<◌, ℕ, suc, List, length, IsTrue, false, true, inl, inr, Option, Some, None, option_map, refl, sym, subst, arith, nat_tests, IsTotalOrder, Ordering, Content, Ascends, view_of, Node, NodeMap, times_listed, times_under, Represents, numbers_under, represented, views, times_used, numbers-subtree, used-one, Rises, rises, represented-is, CanPassUnder, IsOffByOneWithHeight, PassesUnder}
+use Rattle.std.proofs.Common.{Bool, eqb, IsSome}
 use Rattle.std.specs.FinMap as map
-use Rattle.std.specs.declared.cmp.Ordering.{Ordering}
-use Rattle.btree_store.specs.Content.{Content}
-use Rattle.btree_item.specs.Pairs.{Ascends}
-use Rattle.btree_node.specs.Node.{view_of}
-use Rattle.btree_node.specs.declared.node.Node.{Node}
-use Rattle.btree_view.specs.View.{NodeMap}
-use Rattle.btree_laws.specs.Lists.{times_listed}
-use Rattle.btree_laws.specs.Focus.Subtree.{times_under}
-use Rattle.btree_laws.specs.Represents.{Represents, numbers_under, represented}
-use Rattle.btree_laws.specs.TreeState.{views}
-use Rattle.btree_laws.specs.WellFormed.{IsOffByOne, times_used}
-use Rattle.btree_laws.proofs.Trees.Numbers.{less-or, numbers-subtree, used-mapped, used-one}
-use Rattle.btree_laws.proofs.LookUp.KeyInList.{Rises, rises}
-use Rattle.btree_laws.proofs.Trees.Represented.{represented-is}
+use Rattle.btree_laws.specs.WellFormed.{IsOffByOne}
+use Rattle.btree_laws.proofs.Trees.Numbers.{less-or, used-mapped}
 use Rattle.btree_laws.proofs.Trees.Subtrees.{subtree-of}
 use Rattle.btree_laws.proofs.Trees.Stores.{len-views}
-use Rattle.btree_valid.specs.OffByOne.{CanPassUnder, IsOffByOneAmong, IsOffByOneWithHeight, IsOffByOneAtSomeHeight, PassesUnder}
+use Rattle.btree_valid.specs.OffByOne.{IsOffByOneAmong, IsOffByOneAtSomeHeight}
 use Rattle.btree_valid.proofs.OnceLemmas.{all-used, few}
 use Rattle.btree_valid.proofs.OrderLemmas.{passed-none}
 

@@ -1,21 +1,14 @@
 -- Numbers are used, each once, if keys ascend and there are as many numbers as nodes.
-use Rattle.std.proofs.Common.{◌≡◌, ◌≢◌, ◌∷◌, [], ◌∙◌, ◌+◌, ◌<◌, ◌≤◌, ℕ, zero, suc, inl, inr, false, List, length, map, is_some, Option, Some, None, refl, sym, ap, subst, arith}
-use Rattle.std.proofs.lemmas.Bool.Decides.{nat_tests}
-use Rattle.std.specs.Cmp.{IsTotalOrder, nat_cmp_total}
+use Rattle.btree_valid.proofs.Common.{◌≡◌, ◌∷◌, [], ◌∙◌, ◌+◌, ◌<◌, ◌≤◌, ℕ, zero, suc, inl, inr, false, List, length, map, is_some, Option, Some, None, refl, sym, ap, subst, arith, nat_tests, IsTotalOrder, AllByRecursion, Ordering, Less, Content, NodeMap, View, internal, items_of, leaf, parent_of, times_listed, total, Holds, Subtree, id_of, items_under, later_items, times_under, IsNearlySized, least_allowed, times_used, one-other, one-self, same-or, used-one, zero-or, Rises}
+use Rattle.std.proofs.Common.{◌≢◌}
+use Rattle.std.specs.Cmp.{nat_cmp_total}
 use Rattle.std.specs.FinMap.{get, insert, len, len-insert, remove}
-use Rattle.std.specs.List.{AllByRecursion}
 use Rattle.std.specs.Ordering.{ordering_reverse}
-use Rattle.std.specs.declared.cmp.Ordering.{Ordering}
-use Rattle.std.specs.declared.cmp.Ordering.TheVariants.{Equal, Greater, Less}
-use Rattle.btree_store.specs.Content.{Content}
+use Rattle.std.specs.declared.cmp.Ordering.TheVariants.{Equal, Greater}
 use Rattle.btree_store.specs.ContentLaws.{get-remove_other, get-remove_same, is_insert}
-use Rattle.btree_view.specs.View.{NodeMap, View, internal, items_of, leaf, parent_of}
-use Rattle.btree_laws.specs.Lists.{one, times_listed, total}
-use Rattle.btree_laws.specs.Focus.Subtree.{Holds, Subtree, id_of, items_under, later_items, times_under}
-use Rattle.btree_laws.specs.WellFormed.{IsNearlySized, least_allowed, times_used}
-use Rattle.btree_laws.proofs.Paths.Frames.{one-other, one-self, total-append}
-use Rattle.btree_laws.proofs.Trees.Numbers.{same-or, used-low, used-one, used-some, zero-or}
-use Rattle.btree_laws.proofs.LookUp.KeyInList.{Rises}
+use Rattle.btree_laws.specs.Lists.{one}
+use Rattle.btree_laws.proofs.Paths.Frames.{total-append}
+use Rattle.btree_laws.proofs.Trees.Numbers.{used-low, used-some}
 
 -- as many numbers as a content has, each used and none twice, are all of its numbers
 module _ {T : Type 0} where

@@ -1,13 +1,8 @@
 -- Pairs that a walk passes in order.
-use Rattle.std.proofs.Common.{◌≡◌, ◌++◌, ◌∷◌, [], List, Option, Some, None, IsTrue, true, false, sym, subst, append_assoc, append-nil}
-use Rattle.std.specs.Cmp.{IsTotalOrder}
-use Rattle.std.specs.List.{AllByRecursion}
-use Rattle.std.specs.declared.cmp.Ordering.{Ordering}
-use Rattle.std.specs.declared.cmp.Ordering.TheVariants.{Less}
-use Rattle.btree_item.specs.Pairs.{Ascends}
-use Rattle.btree_laws.proofs.Paths.Frames.{AllByRecursion-append, AllByRecursion-right}
-use Rattle.btree_laws.proofs.LookUp.KeyInList.{Rises, ascends, rises, rises-left}
-use Rattle.btree_valid.specs.OffByOne.{CanOrder, HasPassed, IsAbove, Orders}
+use Rattle.btree_valid.proofs.Common.{◌≡◌, ◌++◌, ◌∷◌, [], List, Option, Some, None, IsTrue, true, false, sym, subst, IsTotalOrder, AllByRecursion, Ordering, Less, Ascends, AllByRecursion-right, Rises, ascends, rises, rises-left, CanOrder, Orders}
+use Rattle.std.proofs.Common.{append_assoc, append-nil}
+use Rattle.btree_laws.proofs.Paths.Frames.{AllByRecursion-append}
+use Rattle.btree_valid.specs.OffByOne.{HasPassed, IsAbove}
 
 module _ {K V : Type 0} (cmp : K → K → Ordering) where
   abbrev pub AreBelow : List (K × V) → K → Type 0

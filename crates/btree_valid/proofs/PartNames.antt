@@ -1,19 +1,9 @@
 -- In a part that is as it should be each position passes, and the way by first children leads to the first leaf.
-use Rattle.std.proofs.Common.{◌≡◌, ◌∙◌, ◌+◌, ◌<◌, ◌≤◌, ◌∷◌, ◌++◌, [], ℕ, zero, suc, inl, inr, List, Option, Some, None, Result, Ok, Err, slice_get, refl, sym, ap, subst, arith}
-use Rattle.std.specs.Prelude.{⊤, IsSome}
-use Rattle.std.specs.declared.cmp.Ordering.{Ordering}
-use Rattle.btree_item.specs.declared.fault.Fault.{Fault}
-use Rattle.btree_item.specs.declared.fault.Fault.TheVariants.{NoNode, TooDeep, NotBalanced}
-use Rattle.btree_view.specs.Checks.{FirstFailed, IsNodeVerdict, PassesCheck, node_faults}
-use Rattle.btree_view.specs.Separators.{separator_after, separator_before}
-use Rattle.btree_view.specs.View.{NodeMap, View, children_of, items_of, most_of, parent_of}
-use Rattle.std.specs.Map.{keys_of}
-use Rattle.btree_laws.specs.Focus.Subtree.{Subtree, id_of, view_at}
-use Rattle.btree_laws.proofs.Paths.Frames.{top-view}
+use Rattle.btree_valid.proofs.Common.{◌≡◌, ◌∙◌, ◌+◌, ◌<◌, ◌≤◌, ◌∷◌, ◌++◌, [], ℕ, zero, suc, inl, inr, List, Option, Some, None, Result, Ok, Err, slice_get, refl, sym, ap, subst, arith, ⊤, Ordering, Fault, NoNode, TooDeep, NotBalanced, FirstFailed, IsNodeVerdict, PassesCheck, node_faults, separator_after, separator_before, NodeMap, View, children_of, items_of, most_of, parent_of, keys_of, Subtree, id_of, view_at, top-view, IsFirstLeaf, IsMetBelow, Leads, PassesAt, Spotted, nearest_of, step_down, Suits}
+use Rattle.std.specs.Prelude.{IsSome}
 use Rattle.btree_laws.proofs.Options.{none-some}
-use Rattle.btree_valid.specs.Positions.{IsFirstFaultAmong, IsFirstLeaf, IsLeafAt, IsMetBelow, IsVerdictAt, Leads, PassesAt, PassesOwn, Precedes, Spotted, nearest_of, step_down}
+use Rattle.btree_valid.specs.Positions.{IsFirstFaultAmong, IsLeafAt, IsVerdictAt, PassesOwn, Precedes}
 use Rattle.btree_valid.specs.PositionLaws.{ok-or-err}
-use Rattle.btree_valid.specs.Spots.{Suits}
 use Rattle.btree_valid.proofs.SuitsLemmas.{all-suit, child-at}
 use Rattle.btree_valid.proofs.VerdictLemmas.{passes}
 

@@ -1,16 +1,8 @@
 -- Parts of a tree that a walk passes one after another.
-use Rattle.std.proofs.Common.{◌≡◌, ◌++◌, ◌∷◌, [], ◌∙◌, ◌-◌, ◌<◌, ℕ, zero, suc, inl, inr, List, length, length-append, map, IsTrue, true, false, Option, Some, refl, sym, ap, subst, arith}
-use Rattle.std.specs.Cmp.{IsTotalOrder}
-use Rattle.std.specs.List.{AllByRecursion, flat_map}
-use Rattle.std.specs.declared.cmp.Ordering.{Ordering}
-use Rattle.btree_view.specs.View.{NodeMap, View, children_in, internal, leaf}
-use Rattle.btree_laws.specs.Lists.{times_listed}
-use Rattle.btree_laws.specs.Represents.{Represents, numbers_under, represented, represented_in}
-use Rattle.btree_laws.specs.WellFormed.{IsNearlySized}
-use Rattle.btree_laws.proofs.Paths.Frames.{one-other}
-use Rattle.btree_laws.proofs.Trees.Numbers.{listed-append, same-or, zero-or}
-use Rattle.btree_laws.proofs.Trees.Represented.{represented-is}
-use Rattle.btree_valid.specs.OffByOne.{AreNearlySized, CanOrder, CanPass, CanPassUnder, IsAbove, Orders, Passes, PassesUnder}
+use Rattle.btree_valid.proofs.Common.{◌≡◌, ◌++◌, ◌∷◌, [], ◌∙◌, ◌-◌, ◌<◌, ℕ, zero, suc, inl, inr, List, length, length-append, map, IsTrue, true, false, Option, Some, refl, sym, ap, subst, arith, IsTotalOrder, AllByRecursion, flat_map, Ordering, NodeMap, View, children_in, internal, leaf, times_listed, Represents, numbers_under, represented, IsNearlySized, one-other, same-or, zero-or, represented-is, CanOrder, CanPassUnder, Orders, PassesUnder}
+use Rattle.btree_laws.specs.Represents.{represented_in}
+use Rattle.btree_laws.proofs.Trees.Numbers.{listed-append}
+use Rattle.btree_valid.specs.OffByOne.{AreNearlySized, CanPass, IsAbove, Passes}
 use Rattle.btree_valid.proofs.OrderLemmas.{can-back, can-front, can-above, orders-append, orders-none, orders-one}
 
 module _ {K V : Type 0} (cmp : K → K → Ordering) (node_at : NodeMap (K × V)) (root exempt : ℕ) where

@@ -1,19 +1,11 @@
 -- What a reader may rest on where no check at a position fails, whatever the length is and whatever else the store holds.
-use Rattle.std.proofs.Common.{◌≡◌, ◌∷◌, [], ℕ, inl, inr, List, Option, Some, None, Result, Err, refl, sym, subst, arith}
-use Rattle.std.specs.Cmp.{IsTotalOrder}
-use Rattle.std.specs.List.{AllByRecursion}
-use Rattle.std.specs.Prelude.{◌↔◌, ⊤}
-use Rattle.std.specs.declared.cmp.Ordering.{Ordering}
-use Rattle.btree_store.specs.Content.{Content}
-use Rattle.btree_item.specs.declared.fault.Fault.{Fault}
-use Rattle.btree_node.specs.declared.node.Node.{Node}
-use Rattle.btree_view.specs.Checks.{FirstFailed}
-use Rattle.btree_laws.specs.TreeState.{views}
+use Rattle.btree_valid.proofs.Common.{◌≡◌, ◌∷◌, [], ℕ, inl, inr, List, Option, Some, None, Result, Err, refl, sym, subst, arith, IsTotalOrder, AllByRecursion, ⊤, Ordering, Content, Fault, Node, FirstFailed, views, IsLeafDepth, PassesAt, Spotted, root_spot, numbers_met}
+use Rattle.std.specs.Prelude.{◌↔◌}
 use Rattle.btree_valid.specs.ListedLaws.{leads-depth}
 use Rattle.btree_valid.specs.PositionLaws.{met-once-under, no-fault}
-use Rattle.btree_valid.specs.Positions.{IsLeafDepth, IsMetUnder, PassesAt, Spotted, root_spot}
+use Rattle.btree_valid.specs.Positions.{IsMetUnder}
 use Rattle.btree_valid.specs.Reading.{IsReadable, PassesPositions}
-use Rattle.btree_valid.specs.Verdicts.{HasNoFaultUnder, IsVerdict, PassesEnd, end_faults, numbers_met}
+use Rattle.btree_valid.specs.Verdicts.{HasNoFaultUnder, IsVerdict, PassesEnd, end_faults}
 use Rattle.btree_valid.proofs.ReadLemmas.{no-position-fault, none-readable, root-readable}
 use Rattle.btree_valid.proofs.WayLemmas.{same-way}
 

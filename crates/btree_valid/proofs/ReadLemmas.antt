@@ -1,33 +1,15 @@
 -- Where no check at a position fails, the content is readable (`root-readable`).
 -- The proof builds the tree from its positions: below each of them is a first leaf (`first-leaf`), all leaves have as many
 -- indexes as the first one, and so the children of each node have one height (`build`).
-use Rattle.std.proofs.Common.{◌≡◌, ◌∙◌, ◌+◌, ◌<◌, ◌≤◌, ◌∷◌, ◌++◌, [], ℕ, zero, suc, inl, inr, List, Option, Some, None, Ok, Err, length, slice_get, refl, sym, ap, subst, arith}
+use Rattle.btree_valid.proofs.Common.{◌≡◌, ◌∙◌, ◌+◌, ◌<◌, ◌≤◌, ◌∷◌, ◌++◌, [], ℕ, zero, suc, inl, inr, List, Option, Some, None, Ok, Err, length, slice_get, refl, sym, ap, subst, arith, IsTotalOrder, AllByRecursion, Ordering, Content, Ascends, Fault, NoNode, WrongParent, Overflowing, Underflowing, EmptyRoot, Unsorted, BelowSeparator, AboveSeparator, TooDeep, NotBalanced, WrongLength, Unreachable, OverLimit, Node, FirstFailed, IsNodeVerdict, node_faults, NodeMap, View, children_of, internal, items_of, leaf, Holds, Subtree, id_of, items_under, times_under, times_listed, numbers_under, pairs_under, views, ascends, rises, numbers-subtree, zero-or, represented-is, represents-of, IsFirstLeaf, IsLeafDepth, IsMetBelow, PassesAt, Spotted, root_spot, step_down, numbers_met, Suits}
 use Rattle.std.proofs.lemmas.List.{length-map}
-use Rattle.std.specs.Cmp.{IsTotalOrder}
 use Rattle.std.specs.FinMap as finite
-use Rattle.std.specs.List.{AllByRecursion}
 use Rattle.std.specs.Prelude.{IsSome}
-use Rattle.std.specs.declared.cmp.Ordering.{Ordering}
-use Rattle.btree_store.specs.Content.{Content}
 use Rattle.btree_item.proofs.PairEdits.{Ascends-none}
-use Rattle.btree_item.specs.Pairs.{Ascends}
-use Rattle.btree_item.specs.declared.fault.Fault.{Fault}
-use Rattle.btree_item.specs.declared.fault.Fault.TheVariants.{NoNode, WrongParent, Overflowing, Underflowing, EmptyRoot, Unsorted, BelowSeparator, AboveSeparator, TooDeep, NotBalanced, WrongLength, Unreachable, OverLimit}
-use Rattle.btree_node.specs.declared.node.Node.{Node}
-use Rattle.btree_view.specs.Checks.{FirstFailed, IsNodeVerdict, node_faults}
-use Rattle.btree_view.specs.View.{NodeMap, View, children_of, internal, items_of, leaf}
-use Rattle.btree_laws.specs.Focus.Subtree.{Holds, Subtree, id_of, items_under, times_under}
-use Rattle.btree_laws.specs.Lists.{times_listed}
-use Rattle.btree_laws.specs.Represents.{numbers_under}
-use Rattle.btree_laws.specs.TreeState.{pairs_under, views}
-use Rattle.btree_laws.proofs.LookUp.KeyInList.{ascends, rises}
-use Rattle.btree_laws.proofs.Trees.Numbers.{numbers-subtree, zero-or}
-use Rattle.btree_laws.proofs.Trees.Represented.{represented-is}
-use Rattle.btree_laws.proofs.Trees.Subtrees.{represents-of}
 use Rattle.btree_valid.specs.ListedLaws.{numbers-met}
 use Rattle.btree_valid.specs.PositionLaws.{ok-or-err}
-use Rattle.btree_valid.specs.Positions.{IsFirstLeaf, IsLeafAt, IsLeafDepth, IsMetBelow, IsVerdictAt, PassesAt, PassesOwn, Spotted, position_faults, root_spot, step_down}
-use Rattle.btree_valid.specs.Verdicts.{HasNoFaultUnder, items_met, numbers_met}
+use Rattle.btree_valid.specs.Positions.{IsLeafAt, IsVerdictAt, PassesOwn, position_faults}
+use Rattle.btree_valid.specs.Verdicts.{HasNoFaultUnder, items_met}
 use Rattle.btree_valid.specs.Reading.{IsReadable, PassesPositions}
 use Rattle.btree_valid.proofs.EndLemmas.{numbers-more}
 use Rattle.btree_valid.proofs.ExactLemmas.{AllSuit, assemble, row_of}
@@ -37,7 +19,6 @@ use Rattle.btree_valid.proofs.PartNames.{StandsAt, first-below}
 use Rattle.btree_valid.proofs.SuitsLemmas.{numbers-total}
 use Rattle.btree_valid.proofs.TreeLemmas.{numbers-low}
 use Rattle.btree_valid.proofs.VerdictLemmas.{least-one}
-use Rattle.btree_valid.specs.Spots.{Suits}
 
 -- checks in order, of which none failed
 passed-first : (P : Fault → Type 0) (x : Fault) (xs : List Fault) → FirstFailed P (x ∷ xs) (Ok tt) → P x × FirstFailed P xs (Ok tt)

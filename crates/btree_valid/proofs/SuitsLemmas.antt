@@ -1,20 +1,10 @@
 -- The children of a part that suits, one after another.
-use Rattle.std.proofs.Common.{◌≡◌, ◌≤◌, ◌∷◌, ◌++◌, [], ◌+◌, ℕ, zero, suc, List, length, length-append, map, drop, Option, Some, None, refl, sym, ap, subst, arith}
-use Rattle.std.specs.List.{AllByRecursion, flat_map}
+use Rattle.btree_valid.proofs.Common.{◌≡◌, ◌≤◌, ◌∷◌, ◌++◌, [], ◌+◌, ℕ, zero, suc, List, length, length-append, map, drop, Option, Some, None, refl, sym, ap, subst, arith, AllByRecursion, flat_map, IfSome, Ordering, Less, separator_after, separator_before, NodeMap, children_in, children_of, internal, total, Holds, IsFilled, Subtree, count_at, id_of, items_under, later_items, view_at, numbers_under, Rises, ascends, rises, rises-left, AllByRecursion-right, AreBetween, nearest_of, Suits}
 use Rattle.std.specs.Option.{option_map}
-use Rattle.std.specs.Prelude.{IfSome, slice_get}
-use Rattle.std.specs.declared.cmp.Ordering.{Ordering}
-use Rattle.std.specs.declared.cmp.Ordering.TheVariants.{Less}
-use Rattle.btree_view.specs.Separators.{separator_after, separator_before}
-use Rattle.btree_view.specs.View.{NodeMap, children_in, children_of, internal}
-use Rattle.btree_laws.specs.Lists.{total}
-use Rattle.btree_laws.specs.Focus.Subtree.{Holds, IsFilled, IsFilledBelow, Subtree, count_at, id_of, items_under, later_items, view_at}
-use Rattle.btree_laws.specs.Represents.{numbers_under}
-use Rattle.btree_laws.proofs.LookUp.KeyInList.{Rises, ascends, rises, rises-left, rises-right}
-use Rattle.btree_laws.proofs.Paths.Frames.{AllByRecursion-left, AllByRecursion-right}
-use Rattle.btree_valid.specs.Faults.{AreBetween}
-use Rattle.btree_valid.specs.Positions.{nearest_of}
-use Rattle.btree_valid.specs.Spots.{Suits}
+use Rattle.std.specs.Prelude.{slice_get}
+use Rattle.btree_laws.specs.Focus.Subtree.{IsFilledBelow}
+use Rattle.btree_laws.proofs.LookUp.KeyInList.{rises-right}
+use Rattle.btree_laws.proofs.Paths.Frames.{AllByRecursion-left}
 use Rattle.btree_valid.proofs.VerdictLemmas.{least-most}
 
 module _ {A : Type 0} (h : ℕ) where

@@ -1,40 +1,23 @@
 -- A tree in which the walk of the validator found no fault is well formed.
-use Rattle.std.proofs.Common.{◌≡◌, ◌≢◌, ◌≤◌, ◌<◌, [], ◌∙◌, ◌+◌, ℕ, inl, inr, length, Option, Some, None, Result, Ok, Err, option_copied, option_map, refl, sym, ap, subst, arith}
-use Rattle.std.proofs.lemmas.Bool.Decides.{nat_tests}
-use Rattle.std.specs.Cmp.{IsTotalOrder}
+use Rattle.btree_valid.proofs.Common.{◌≡◌, ◌≤◌, ◌<◌, [], ◌∙◌, ◌+◌, ℕ, inl, inr, length, Option, Some, None, Result, Ok, Err, option_copied, option_map, refl, sym, ap, subst, arith, nat_tests, IsTotalOrder, IsFalse, Ordering, Fault, view_of, Node, Content, is_judged_as_root, NodeMap, View, most_of, size_of, Holds, Subtree, count_at, id_of, items_under, times_under, view_at, times_listed, Represents, numbers_under, represented, pairs_under, views, IsNearlySized, least_allowed, times_used, rises, one-other, top-view, numbers-subtree, same-or, used-one, represented-is, view-parent, view-size, represents-of, AreBetween, FindsAt, Suits, least_between, Met, Spot}
+use Rattle.std.proofs.Common.{◌≢◌}
 use Rattle.std.specs.FinMap as finite
-use Rattle.std.specs.Prelude.{IsFalse}
-use Rattle.std.specs.declared.cmp.Ordering.{Ordering}
 use Rattle.btree_item.proofs.PairEdits.{Ascends-none}
-use Rattle.btree_item.specs.declared.fault.Fault.{Fault}
-use Rattle.btree_node.specs.Node.{view_of}
-use Rattle.btree_node.specs.declared.node.Node.{Node}
-use Rattle.btree_store.specs.Content.{Content}
-use Rattle.btree_view.specs.Checks.{is_judged_as_root}
-use Rattle.btree_view.specs.View.{NodeMap, View, most_of, size_of}
 use Rattle.btree_laws.specs.Focus.Focus.{IsFocus}
 use Rattle.btree_laws.specs.Focus.Path.{Path, parent_above}
 use Rattle.btree_laws.specs.Focus.Search.{levels_below}
-use Rattle.btree_laws.specs.Focus.Subtree.{Holds, Subtree, count_at, id_of, items_under, most_at, times_under, view_at}
-use Rattle.btree_laws.specs.Lists.{times_listed}
-use Rattle.btree_laws.specs.Represents.{Represents, numbers_under, represented}
-use Rattle.btree_laws.specs.TreeState.{IsBTree, TreeState, node_map, pairs_under, views, unlimited}
-use Rattle.btree_laws.specs.WellFormed.{IsNearlySized, IsRooted, IsSized, IsWellFormed, least_allowed, times_used}
-use Rattle.btree_laws.proofs.LookUp.KeyInList.{rises}
-use Rattle.btree_laws.proofs.Paths.Frames.{one-other, top-view}
+use Rattle.btree_laws.specs.Focus.Subtree.{most_at}
+use Rattle.btree_laws.specs.TreeState.{IsBTree, TreeState, node_map, unlimited}
+use Rattle.btree_laws.specs.WellFormed.{IsRooted, IsSized, IsWellFormed}
 use Rattle.btree_laws.proofs.Paths.FromRoot.{node-at}
 use Rattle.btree_laws.proofs.Paths.Levels.{levels-rooted}
 use Rattle.btree_laws.proofs.Paths.UnsizedFocus.{focus-unsized}
 use Rattle.btree_laws.proofs.Trees.Heights.{levels-is}
-use Rattle.btree_laws.proofs.Trees.Numbers.{numbers-subtree, same-or, used-mapped, used-none, used-one, used-there}
-use Rattle.btree_laws.proofs.Trees.Represented.{represented-is}
-use Rattle.btree_laws.proofs.Trees.Sizes.{below-middle, least-low, least-root, view-most, view-parent, view-size}
+use Rattle.btree_laws.proofs.Trees.Numbers.{used-mapped, used-none, used-there}
+use Rattle.btree_laws.proofs.Trees.Sizes.{below-middle, least-low, least-root, view-most}
 use Rattle.btree_laws.proofs.Trees.States.{height_held, is-tree}
-use Rattle.btree_laws.proofs.Trees.Subtrees.{represents-of}
-use Rattle.btree_valid.specs.Faults.{AreBetween, SuitsNode}
-use Rattle.btree_valid.specs.Spots.{FindsAt, FindsTree, Suits, least_between}
-use Rattle.btree_valid.specs.declared.faults.Met.{Met}
-use Rattle.btree_valid.specs.declared.faults.Spot.{Spot}
+use Rattle.btree_valid.specs.Faults.{SuitsNode}
+use Rattle.btree_valid.specs.Spots.{FindsTree}
 use Rattle.btree_valid.proofs.OnceLemmas.{all-used, few, listed-low}
 
 -- a part that suits at a spot, with the parent and the separators there by other names

@@ -1,22 +1,10 @@
 -- A node of a well formed tree passes each check that the arguments allow.
-use Rattle.std.proofs.Common.{◌≡◌, ◌≤◌, ◌∷◌, [], ◌∙◌, ℕ, zero, suc, inl, inr, List, length, map, Option, Some, None, refl, subst, arith}
+use Rattle.btree_valid.proofs.Common.{◌≡◌, ◌≤◌, ◌∷◌, [], ◌∙◌, ℕ, zero, suc, inl, inr, List, length, map, Option, Some, None, refl, subst, arith, AllByRecursion, keys_of, ⊤, IfSome, IsFalse, Ordering, Less, Fault, NoNode, WrongParent, Overflowing, Underflowing, EmptyRoot, Unsorted, BelowSeparator, AboveSeparator, TooDeep, NotBalanced, WrongLength, Unreachable, OverLimit, FirstFailed, IsNodeVerdict, PassesCheck, is_judged_as_root, node_faults, NodeMap, View, items_of, most_of, parent_of, Subtree, count_at, id_of, items_under, later_items, view_at, ascends, rises, AllByRecursion-right, view-parent, view-size, Allows, Suits, least_between}
 use Rattle.std.proofs.lemmas.Map.Entries.{length-keys_of}
-use Rattle.std.specs.List.{AllByRecursion}
-use Rattle.std.specs.Map.{keys_of}
-use Rattle.std.specs.Prelude.{⊤, IfSome, IsFalse, Result, Ok, Err, slice_get}
-use Rattle.std.specs.declared.cmp.Ordering.{Ordering}
-use Rattle.std.specs.declared.cmp.Ordering.TheVariants.{Less}
-use Rattle.btree_item.specs.declared.fault.Fault.{Fault}
-use Rattle.btree_item.specs.declared.fault.Fault.TheVariants.{NoNode, WrongParent, Overflowing, Underflowing, EmptyRoot, Unsorted, BelowSeparator, AboveSeparator, TooDeep, NotBalanced, WrongLength, Unreachable, OverLimit}
-use Rattle.btree_view.specs.Checks.{BeginsAbove, EndsBelow, FirstFailed, IsNodeVerdict, PassesCheck, is_judged_as_root, node_faults}
-use Rattle.btree_view.specs.View.{NodeMap, View, items_of, most_of, parent_of}
-use Rattle.btree_laws.specs.Focus.Subtree.{Subtree, count_at, id_of, items_under, later_items, view_at}
-use Rattle.btree_laws.proofs.LookUp.KeyInList.{ascends, rises}
-use Rattle.btree_laws.proofs.Paths.Frames.{AllByRecursion-right}
-use Rattle.btree_laws.proofs.Trees.Sizes.{view-most, view-parent, view-size}
+use Rattle.std.specs.Prelude.{Result, Ok, Err, slice_get}
+use Rattle.btree_view.specs.Checks.{BeginsAbove, EndsBelow}
+use Rattle.btree_laws.proofs.Trees.Sizes.{view-most}
 use Rattle.btree_laws.proofs.LookUp.Descent.{items-rise}
-use Rattle.btree_valid.specs.Faults.{Allows}
-use Rattle.btree_valid.specs.Spots.{Suits, least_between}
 
 -- if each check passes, the answer is Ok
 pub all-pass : (Passes : Fault → Type 0) → ((fault : Fault) → Passes fault) → (faults : List Fault) (answer : Result ⊤ Fault) → FirstFailed Passes faults answer → answer ≡ Ok tt

@@ -1,14 +1,10 @@
 -- Two positions with one number: that number is listed twice (`two-listed`).
-use Rattle.std.proofs.Common.{◌≡◌, ◌∙◌, ◌+◌, ◌<◌, ◌≤◌, ◌∷◌, [], ℕ, zero, suc, inl, inr, List, Some, length, slice_get, sym, ap, subst, arith}
-use Rattle.std.specs.List.{flat_map}
-use Rattle.btree_view.specs.View.{NodeMap, children_in, children_of}
-use Rattle.btree_laws.specs.Lists.{one, times_listed}
-use Rattle.btree_laws.specs.Represents.{numbers_under}
-use Rattle.btree_laws.proofs.Paths.Frames.{one-self}
+use Rattle.btree_valid.proofs.Common.{◌≡◌, ◌∙◌, ◌+◌, ◌<◌, ◌≤◌, ◌∷◌, [], ℕ, zero, suc, inl, inr, List, Some, length, slice_get, sym, ap, subst, arith, flat_map, NodeMap, children_in, children_of, times_listed, numbers_under, one-self, Leads, Spotted, step_down}
+use Rattle.btree_laws.specs.Lists.{one}
 use Rattle.btree_laws.proofs.Trees.Numbers.{listed-append}
 use Rattle.btree_valid.specs.ListedLaws.{met-listed}
 use Rattle.btree_valid.specs.PositionLaws.{one-first}
-use Rattle.btree_valid.specs.Positions.{Leads, Precedes, Spotted, step_down}
+use Rattle.btree_valid.specs.Positions.{Precedes}
 
 module _ (f : ℕ → List ℕ) (n : ℕ) where
   -- what one child lists is a part of what all list

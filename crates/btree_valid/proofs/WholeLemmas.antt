@@ -1,38 +1,23 @@
 -- A well formed tree and its nodes at the spot where the walk begins.
-use Rattle.std.proofs.Common.{◌≡◌, ◌≤◌, ◌<◌, ◌^◌, ◌++◌, [], ◌∙◌, ◌+◌, ℕ, List, length, Option, Some, None, Result, Ok, Err, option_copied, refl, sym, ap, subst, arith}
+use Rattle.btree_valid.proofs.Common.{◌≡◌, ◌≤◌, ◌<◌, ◌++◌, [], ◌∙◌, ◌+◌, ℕ, List, length, Option, Some, None, Result, Ok, Err, option_copied, refl, sym, ap, subst, arith, IsFalse, Ordering, Fault, Ascends, Node, Content, is_judged_as_root, View, parent_of, size_of, Holds, IsFilled, Subtree, count_at, id_of, items_under, view_at, numbers_under, represented, pairs_under, views, Rises, ascends, rises, rises-left, top-view, represented-is, view-parent, view-size, represents-of, Allows, AreBetween, BeginsAt, BlamesAt, CanMeet, MeetsAt, Suits, least_between, Met, Spot}
+use Rattle.std.proofs.Common.{◌^◌}
 use Rattle.std.specs.FinMap as finite
-use Rattle.std.specs.Prelude.{IsFalse}
-use Rattle.std.specs.declared.cmp.Ordering.{Ordering}
-use Rattle.btree_item.specs.declared.fault.Fault.{Fault}
-use Rattle.btree_item.specs.Pairs.{Ascends}
-use Rattle.btree_node.specs.declared.node.Node.{Node}
-use Rattle.btree_store.specs.Content.{Content}
-use Rattle.btree_view.specs.Checks.{is_judged_as_root}
-use Rattle.btree_view.specs.View.{View, parent_of, size_of}
 use Rattle.btree_laws.specs.Focus.Focus.{IsFocus}
 use Rattle.btree_laws.specs.Focus.Path.{Path, items_after, items_before, least_at, parent_above}
 use Rattle.btree_laws.specs.Focus.Search.{levels_below}
-use Rattle.btree_laws.specs.Focus.Subtree.{Holds, IsFilled, Subtree, count_at, id_of, items_under, view_at}
-use Rattle.btree_laws.specs.Represents.{numbers_under, represented}
-use Rattle.btree_laws.specs.TreeState.{IsBTree, TreeState, node_map, pairs_under, views, unlimited}
+use Rattle.btree_laws.specs.TreeState.{IsBTree, TreeState, node_map, unlimited}
 use Rattle.btree_laws.specs.WellFormed.{IsRooted, IsSized, IsWellFormed}
-use Rattle.btree_laws.proofs.LookUp.KeyInList.{Rises, ascends, rises, rises-left, rises-right}
-use Rattle.btree_laws.proofs.Paths.Frames.{top-view}
+use Rattle.btree_laws.proofs.LookUp.KeyInList.{rises-right}
 use Rattle.btree_laws.proofs.Paths.FromRoot.{HasSubtree, node-at, rooted-subtree}
 use Rattle.btree_laws.proofs.Paths.Levels.{levels-rooted}
 use Rattle.btree_laws.proofs.Paths.UnsizedFocus.{focus-unsized}
 use Rattle.btree_laws.proofs.Trees.Density.{height-low}
 use Rattle.btree_laws.proofs.Trees.Heights.{levels-is, low-enough}
 use Rattle.btree_laws.proofs.Trees.Numbers.{used-there}
-use Rattle.btree_laws.proofs.Trees.Represented.{represented-is}
-use Rattle.btree_laws.proofs.Trees.Sizes.{view-parent, view-size}
 use Rattle.btree_laws.proofs.Trees.States.{few-nodes, height_held}
 use Rattle.btree_laws.proofs.Trees.Stores.{len-views}
-use Rattle.btree_laws.proofs.Trees.Subtrees.{represents-of}
-use Rattle.btree_valid.specs.Faults.{Allows, AreBetween, SuitsNode, depth_below}
-use Rattle.btree_valid.specs.Spots.{BeginsAt, BlamesAt, CanMeet, MeetsAt, MeetsTree, Suits, least_between}
-use Rattle.btree_valid.specs.declared.faults.Met.{Met}
-use Rattle.btree_valid.specs.declared.faults.Spot.{Spot}
+use Rattle.btree_valid.specs.Faults.{SuitsNode, depth_below}
+use Rattle.btree_valid.specs.Spots.{MeetsTree}
 
 module _ {K V : Type 0} (content : Content (Node K V)) (cmp : K → K → Ordering) (len : ℕ) where
   -- without a root nothing may come

@@ -1,23 +1,10 @@
 -- A walk down to a key: what one node passes on to the next.
-use Rattle.std.proofs.Common.{◌≡◌, ℕ, zero, suc, ◌+◌, ◌≤◌, List, [], ◌∷◌, ◌++◌, length, map, drop, slice_get, Option, Some, None, Result, Ok, Err, IsSome, refl, sym, ap, subst, ◌∙◌, arith, append_assoc}
-use Rattle.std.proofs.lemmas.List.{length-map}
-use Rattle.std.specs.Cmp.{IsTotalOrder}
-use Rattle.std.specs.List.{AllByRecursion}
-use Rattle.std.specs.declared.cmp.Ordering.{Ordering}
-use Rattle.std.specs.declared.cmp.Ordering.TheVariants.{Equal, Less}
-use Rattle.btree_item.specs.KeyLaws.{cuts_of}
-use Rattle.btree_item.specs.Pairs.{place_of}
+use Rattle.btree_walk.proofs.Common.{◌≡◌, ℕ, zero, suc, ◌+◌, ◌≤◌, List, [], ◌∷◌, ◌++◌, length, map, drop, slice_get, Option, Some, None, Result, Ok, Err, IsSome, refl, sym, ap, subst, ◌∙◌, arith, append_assoc, length-map, IsTotalOrder, AllByRecursion, Ordering, Equal, Less, cuts_of, place_of, NodeMap, View, internal, items_of, leaf, IsUnder, remaining_in, represented, AreAbove, AreBelow, Rises, rises-right, searched, side, under-internal, under-leaf, AllByRecursion-append, AllByRecursion-right, preceding_in, with_child_before}
 use Rattle.btree_view.specs.LookUp.{placed}
-use Rattle.btree_view.specs.View.{NodeMap, View, internal, items_of, leaf}
-use Rattle.btree_laws.specs.Remaining.{IsUnder, remaining_in}
-use Rattle.btree_laws.specs.Represents.{represented}
 use Rattle.btree_laws.proofs.LookUp.Descent.{map-parts}
-use Rattle.btree_laws.proofs.LookUp.KeyInList.{AreAbove, AreBelow, Rises, above-pivot, below-pivot, rises-right, searched, side}
-use Rattle.btree_laws.proofs.LookUp.Walk.{under-internal, under-leaf}
-use Rattle.btree_laws.proofs.Paths.Frames.{AllByRecursion-append, AllByRecursion-right}
+use Rattle.btree_laws.proofs.LookUp.KeyInList.{above-pivot, below-pivot}
 use Rattle.btree_find.proofs.SearchLemmas.{placed-ok}
 use Rattle.btree_walk.specs.AtKey.{below_place, up_to_place}
-use Rattle.btree_walk.specs.Preceding.{preceding_in, with_child_before}
 use Rattle.btree_walk.proofs.RowLemmas.{turned}
 
 -- what a search in a node gives

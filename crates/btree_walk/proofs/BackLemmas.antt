@@ -1,19 +1,8 @@
 -- A walk down to a last leaf, and up to the previous item.
-use Rattle.std.proofs.Common.{◌≡◌, ℕ, zero, suc, ◌+◌, ◌-◌, ◌<◌, ◌≤◌, List, [], ◌∷◌, ◌++◌, length, map, take, Option, Some, None, refl, sym, ap, subst, ◌∙◌, option_map, slice_get, arith, append_assoc, append-nil}
-use Rattle.std.proofs.lemmas.List.{length-map, length_push, map-append, take_all}
-use Rattle.std.specs.Borrow.{Bor}
-use Rattle.std.specs.List.{AllByRecursion}
+use Rattle.btree_walk.proofs.Common.{◌≡◌, ℕ, zero, suc, ◌+◌, ◌-◌, ◌<◌, ◌≤◌, List, [], ◌∷◌, ◌++◌, length, map, take, Option, Some, None, refl, sym, ap, subst, ◌∙◌, option_map, slice_get, arith, append_assoc, append-nil, length-map, length_push, take_all, Bor, AllByRecursion, Content, Node, view_of, View, leaf, internal, items_of, children_of, size_of, represented, views, IsUnder, under-leaf, Ancestor, AreRowsBefore, preceding_above, preceding_in, row_before, rows_before, with_child_before}
+use Rattle.std.proofs.lemmas.List.{map-append}
 use Rattle.std.specs.FinMap as finite
-use Rattle.btree_store.specs.Content.{Content}
-use Rattle.btree_node.specs.declared.node.Node.{Node}
-use Rattle.btree_node.specs.Node.{view_of}
-use Rattle.btree_view.specs.View.{View, leaf, internal, items_of, children_of, size_of}
-use Rattle.btree_laws.specs.Represents.{represented}
-use Rattle.btree_laws.specs.TreeState.{views}
-use Rattle.btree_laws.specs.Remaining.{IsUnder}
-use Rattle.btree_laws.proofs.LookUp.Walk.{under-leaf}
-use Rattle.btree_walk.specs.declared.ancestors.Ancestor.{Ancestor}
-use Rattle.btree_walk.specs.Preceding.{AreRowsBefore, EndsAt, branches_before, preceding_above, preceding_in, row_before, rows_before, with_child_before}
+use Rattle.btree_walk.specs.Preceding.{EndsAt, branches_before}
 use Rattle.btree_node.proofs.RoomLemmas.{none-last}
 use Rattle.btree_walk.proofs.RowLemmas.{all-more, before-get, before-length, before-pop, before-push, get-within, inside-before, preceding-more, preceding-push, split-last, take-more}
 

@@ -1,14 +1,6 @@
 -- The part of a list between two bounds, where its keys ascend: the list in parts at a key.
-use Rattle.std.proofs.Common.{◌≡◌, List, [], ◌∷◌, ◌++◌, Bool, true, false, refl, sym, ap, subst, ◌∙◌, append_assoc}
-use Rattle.std.specs.BTreeMap.Range.{entries_between, range_contains}
-use Rattle.std.specs.Cmp.{IsTotalOrder}
-use Rattle.std.specs.List.{AllByRecursion, filter}
-use Rattle.std.specs.declared.cmp.Ordering.{Ordering}
-use Rattle.std.specs.declared.cmp.Ordering.TheVariants.{Equal, Greater, Less}
-use Rattle.std.specs.declared.ops.Bound.TheVariants.{Included, Unbounded}
-use Rattle.btree_item.specs.KeyLaws.{cuts_of}
-use Rattle.btree_laws.proofs.Paths.Frames.{AllByRecursion-append}
-use Rattle.btree_laws.proofs.LookUp.KeyInList.{AreAbove, AreBelow, Rises, equal-back, equal-front, rises-right, side}
+use Rattle.btree_walk.proofs.Common.{◌≡◌, List, [], ◌∷◌, ◌++◌, Bool, true, false, refl, sym, ap, subst, ◌∙◌, append_assoc, entries_between, range_contains, IsTotalOrder, AllByRecursion, filter, Ordering, Equal, Greater, Less, Included, Unbounded, cuts_of, AllByRecursion-append, AreAbove, AreBelow, Rises, rises-right, side}
+use Rattle.btree_laws.proofs.LookUp.KeyInList.{equal-back, equal-front}
 
 module _ {X : Type 0} (test : X → Bool) where
   -- all of the elements pass the test

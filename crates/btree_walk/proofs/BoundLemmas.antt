@@ -1,17 +1,12 @@
 -- The pairs of a rising list between two bounds.
-use Rattle.std.proofs.Common.{◌≡◌, ◌∙◌, suc, ◌+◌, ◌-◌, Bool, true, false, cond, not, ◌&&◌, List, [], ◌∷◌, ◌++◌, length, take, refl, sym, ap, subst, arith, length-append}
-use Rattle.std.proofs.lemmas.List.{take_at, append-nil}
+use Rattle.btree_walk.proofs.Common.{◌≡◌, ◌∙◌, suc, ◌+◌, ◌-◌, Bool, true, false, not, List, [], ◌∷◌, ◌++◌, length, take, refl, sym, ap, subst, arith, length-append, take_at, entries_between, range_contains, IsTotalOrder, AllByRecursion, filter, Ordering, Equal, Greater, Less, Bound, Included, Unbounded, Rises, rises-left, rises-right, AllByRecursion-right}
+use Rattle.std.proofs.Common.{cond, ◌&&◌}
+use Rattle.std.proofs.lemmas.List.{append-nil}
 use Rattle.std.proofs.lemmas.List.Elements.{filter-append}
-use Rattle.std.specs.BTreeMap.Range.{entries_between, is_from_start, is_past_end, range_contains}
-use Rattle.std.specs.Cmp.{IsTotalOrder}
-use Rattle.std.specs.List.{AllByRecursion, filter}
+use Rattle.std.specs.BTreeMap.Range.{is_from_start, is_past_end}
 use Rattle.std.specs.Ordering.{is_eq, is_le, is_lt}
-use Rattle.std.specs.declared.cmp.Ordering.{Ordering}
-use Rattle.std.specs.declared.cmp.Ordering.TheVariants.{Equal, Greater, Less}
-use Rattle.std.specs.declared.ops.Bound.{Bound}
-use Rattle.std.specs.declared.ops.Bound.TheVariants.{Included, Excluded, Unbounded}
-use Rattle.btree_laws.proofs.LookUp.KeyInList.{Rises, reversed, reversed-back, rises-left, rises-right}
-use Rattle.btree_laws.proofs.Paths.Frames.{AllByRecursion-right}
+use Rattle.std.specs.declared.ops.Bound.TheVariants.{Excluded}
+use Rattle.btree_laws.proofs.LookUp.KeyInList.{reversed, reversed-back}
 use Rattle.btree_find.specs.CallerLaws.{equal-by}
 
 module _ {A : Type 0} where

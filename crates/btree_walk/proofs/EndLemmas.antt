@@ -1,6 +1,6 @@
 -- One step at an end of an iterator from both ends.
-use Rattle.std.proofs.Common.{◌≡◌, ℕ, zero, suc, ◌-◌, ◌≤◌, List, [], ◌∷◌, ◌++◌, length, take, refl, sym, ap, ◌∙◌, arith, append_assoc, append-nil}
-use Rattle.std.proofs.lemmas.List.{length_push, take_all, take_at, same_from_push}
+use Rattle.btree_walk.proofs.Common.{◌≡◌, ℕ, zero, suc, ◌-◌, ◌≤◌, List, [], ◌∷◌, ◌++◌, length, take, refl, sym, ap, ◌∙◌, arith, append_assoc, append-nil, length_push, take_all, take_at}
+use Rattle.std.proofs.lemmas.List.{same_from_push}
 use Rattle.btree_laws.proofs.LookUp.Descent.{snoc}
 use Rattle.btree_walk.specs.Ends.{AreEnds}
 

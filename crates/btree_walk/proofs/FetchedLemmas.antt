@@ -1,15 +1,9 @@
 -- The leaves that a backward walk has fetched.
-use Rattle.std.proofs.Common.{◌≡◌, ℕ, zero, suc, ◌-◌, ◌<◌, ◌≤◌, List, [], ◌∷◌, ◌++◌, length, map, take, Option, Some, None, IsSome, refl, sym, subst, slice_get, arith}
-use Rattle.std.proofs.lemmas.List.{length-map}
-use Rattle.std.specs.Borrow.{Bor}
+use Rattle.btree_walk.proofs.Common.{◌≡◌, ℕ, zero, suc, ◌-◌, ◌<◌, ◌≤◌, List, [], ◌∷◌, ◌++◌, length, map, take, Option, Some, None, IsSome, refl, sym, subst, slice_get, arith, length-map, Bor, AllByRecursion, View, leaf, internal, children_of, size_of, IsUnder, TreeState, node_map, Ancestor, row_before, with_child_before}
 use Rattle.std.specs.FinMap as finite
-use Rattle.std.specs.List.{AllByRecursion}
 use Rattle.std.specs.Option.{option_copied}
-use Rattle.btree_view.specs.View.{View, leaf, internal, children_of, size_of}
-use Rattle.btree_laws.specs.Remaining.{IsUnder}
-use Rattle.btree_laws.specs.TreeState.{TreeState, IsUsed, node_map}
-use Rattle.btree_walk.specs.declared.ancestors.Ancestor.{Ancestor}
-use Rattle.btree_walk.specs.Preceding.{AreAncestorsBefore, HasChildrenBefore, row_before, with_child_before}
+use Rattle.btree_laws.specs.TreeState.{IsUsed}
+use Rattle.btree_walk.specs.Preceding.{AreAncestorsBefore, HasChildrenBefore}
 use Rattle.btree_walk.proofs.BackLemmas.{row_of, taken-off-back}
 use Rattle.btree_walk.proofs.RowLemmas.{get-within}
 use Rattle.btree_walk.proofs.WalkLemmas.{under-used}

@@ -1,29 +1,9 @@
 -- A forward walk that starts at a key, from the root down.
-use Rattle.std.proofs.Common.{◌≡◌, ℕ, suc, ◌+◌, ◌-◌, ◌<◌, List, [], ◌∷◌, ◌++◌, length, length-append, map, drop, slice_get, Option, Some, None, Result, Ok, Err, refl, sym, ap, subst, ◌∙◌, option_map, arith, append_assoc}
-use Rattle.std.proofs.lemmas.List.{length-map, length_push}
-use Rattle.std.specs.BTreeMap.Range.{entries_between}
-use Rattle.std.specs.Cmp.{IsTotalOrder}
+use Rattle.btree_walk.proofs.Common.{◌≡◌, ℕ, suc, ◌+◌, ◌-◌, ◌<◌, List, [], ◌∷◌, ◌++◌, length, length-append, map, drop, slice_get, Option, Some, None, Result, Ok, Err, refl, sym, ap, subst, ◌∙◌, option_map, arith, append_assoc, length-map, length_push, entries_between, IsTotalOrder, AllByRecursion, Ordering, Greater, Less, Included, Unbounded, Content, cuts_of, place_of, Node, view_of, internal, items_of, leaf, AreRows, IsUnder, remaining_above, remaining_in, represented, views, AreAbove, AreBelow, Rises, ascends, rises-left, rises-right, searched, side, Inside, remaining-push, under-internal, under-leaf, AllByRecursion-append, AllByRecursion-right, preceding_in, with_child_before, rows_of, Ancestor}
 use Rattle.std.specs.FinMap as finite
-use Rattle.std.specs.List.{AllByRecursion}
-use Rattle.std.specs.declared.cmp.Ordering.{Ordering}
-use Rattle.std.specs.declared.cmp.Ordering.TheVariants.{Greater, Less}
-use Rattle.std.specs.declared.ops.Bound.TheVariants.{Included, Unbounded}
-use Rattle.btree_store.specs.Content.{Content}
-use Rattle.btree_item.specs.KeyLaws.{cuts_of}
-use Rattle.btree_item.specs.Pairs.{Ascends, place_of}
-use Rattle.btree_node.specs.declared.node.Node.{Node}
-use Rattle.btree_node.specs.Node.{view_of}
-use Rattle.btree_view.specs.View.{internal, items_of, leaf}
-use Rattle.btree_laws.specs.Remaining.{AreRows, IsUnder, remaining_above, remaining_in}
-use Rattle.btree_laws.specs.Represents.{represented}
-use Rattle.btree_laws.specs.TreeState.{views}
-use Rattle.btree_laws.proofs.LookUp.KeyInList.{AreAbove, AreBelow, Rises, ascends, rises-left, rises-right, searched, side}
-use Rattle.btree_laws.proofs.LookUp.Walk.{Inside, remaining-push, rows-push, under-internal, under-leaf}
-use Rattle.btree_laws.proofs.Paths.Frames.{AllByRecursion-append, AllByRecursion-right}
+use Rattle.btree_item.specs.Pairs.{Ascends}
+use Rattle.btree_laws.proofs.LookUp.Walk.{rows-push}
 use Rattle.btree_walk.specs.AtKey.{below_in, below_place}
-use Rattle.btree_walk.specs.Preceding.{preceding_in, with_child_before}
-use Rattle.btree_walk.specs.Rows.{rows_of}
-use Rattle.btree_walk.specs.declared.ancestors.Ancestor.{Ancestor}
 use Rattle.btree_walk.proofs.AtKeyLemmas.{child-under, cut-list, cut-low, drop-front, gap-none, gap-of, hit-of, node-rises, pair-left, pair-right, remaining-parts, row-high}
 use Rattle.btree_walk.proofs.BetweenLemmas.{from-hit, from-miss}
 use Rattle.btree_walk.proofs.WalkLemmas.{AreOpen, left_over, row_of, rows-of-push}

@@ -1,10 +1,8 @@
 -- A step of the iterator, and where it starts.
-use Rattle.std.proofs.Common.{◌≡◌, ℕ, ◌^◌, ◌<◌, List, [], ◌∷◌, ◌++◌, ◌∙◌, length, Some, None, ap, sym, arith}
+use Rattle.btree_walk.proofs.Common.{◌≡◌, ℕ, ◌<◌, List, [], ◌∷◌, ◌++◌, ◌∙◌, length, Some, None, ap, sym, arith, Ordering, TreeState, node_map, pairs_of, IsWellFormed, IsUnder}
+use Rattle.std.proofs.Common.{◌^◌}
 use Rattle.std.specs.FinMap as map
-use Rattle.std.specs.declared.cmp.Ordering.{Ordering}
-use Rattle.btree_laws.specs.TreeState.{TreeState, node_map, pairs_of}
-use Rattle.btree_laws.specs.WellFormed.{IsSized, IsWellFormed}
-use Rattle.btree_laws.specs.Remaining.{IsUnder}
+use Rattle.btree_laws.specs.WellFormed.{IsSized}
 use Rattle.btree_laws.proofs.Trees.Density.{height-low}
 use Rattle.btree_laws.proofs.Trees.States.{height_held}
 

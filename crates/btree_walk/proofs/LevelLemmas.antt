@@ -1,9 +1,5 @@
 -- The children of a node have fewer levels below them than the node.
-use Rattle.std.proofs.Common.{◌≡◌, ℕ, zero, suc, ◌<◌, ◌≤◌, List, [], ◌∷◌, map, Option, Some, refl, ap, arith}
-use Rattle.std.specs.List.{AllByRecursion}
-use Rattle.btree_view.specs.View.{NodeMap, internal}
-use Rattle.btree_laws.specs.Focus.Search.{levels_below}
-use Rattle.btree_laws.specs.Remaining.{IsUnder}
+use Rattle.btree_walk.proofs.Common.{◌≡◌, ℕ, zero, suc, ◌<◌, ◌≤◌, List, [], ◌∷◌, map, Option, Some, refl, ap, arith, AllByRecursion, NodeMap, internal, levels_below, IsUnder}
 use Rattle.btree_laws.specs.Represents.{Represents}
 
 module _ {A : Type 0} (node_at : NodeMap A) where

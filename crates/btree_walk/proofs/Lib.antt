@@ -1,3 +1,4 @@
+pub mod Common
 mod AtKeyLemmas
 mod BackLemmas
 pub mod BetweenLemmas

@@ -1,17 +1,7 @@
 -- A search for the last pair within an end bound: lists in parts.
-use Rattle.std.proofs.Common.{◌≡◌, Bool, true, false, not, List, [], ◌∷◌, ◌++◌, Option, Some, None, option_map, refl, sym, ap, subst, ◌∙◌, append_assoc, append-nil}
+use Rattle.btree_walk.proofs.Common.{◌≡◌, Bool, true, false, not, List, [], ◌∷◌, ◌++◌, Option, Some, None, option_map, refl, sym, ap, subst, ◌∙◌, append_assoc, append-nil, entries_between, range_contains, IsTotalOrder, AllByRecursion, filter, option_or, Ordering, Less, Bound, Unbounded, Rises, rises-left, rises-right, AllByRecursion-append, AllByRecursion-right, IsLast, pair_past}
 use Rattle.std.proofs.lemmas.List.Elements.{filter-append}
-use Rattle.std.specs.BTreeMap.Range.{entries_between, range_contains}
-use Rattle.std.specs.Cmp.{IsTotalOrder}
-use Rattle.std.specs.List.{AllByRecursion, filter}
-use Rattle.std.specs.Option.{option_or}
-use Rattle.std.specs.declared.cmp.Ordering.{Ordering}
-use Rattle.std.specs.declared.cmp.Ordering.TheVariants.{Less}
-use Rattle.std.specs.declared.ops.Bound.{Bound}
-use Rattle.std.specs.declared.ops.Bound.TheVariants.{Unbounded}
-use Rattle.btree_laws.proofs.LookUp.KeyInList.{Rises, rises-left, rises-right}
-use Rattle.btree_laws.proofs.Paths.Frames.{AllByRecursion-append, AllByRecursion-right}
-use Rattle.btree_walk.specs.Near.{IsCut, IsLast, IsLastOr, StopsAt, pair_past}
+use Rattle.btree_walk.specs.Near.{IsCut, IsLastOr, StopsAt}
 use Rattle.btree_walk.proofs.BoundLemmas.{all-so, filter-all, filter-earlier, filter-none, past-on}
 
 pub map-or : {A B : Type 0} (f : A → B) (one other : Option A) → option_map f (option_or one other) ≡ option_or (option_map f one) (option_map f other)

@@ -1,25 +1,9 @@
 -- A search for the last pair within an end bound: up from a leaf, and down to one.
-use Rattle.std.proofs.Common.{◌≡◌, ℕ, suc, ◌+◌, ◌<◌, ◌≤◌, Bool, true, false, List, [], ◌∷◌, ◌++◌, length, take, slice_get, Option, Some, None, refl, sym, ap, subst, ◌∙◌, option_map, arith, append_assoc, append-nil}
-use Rattle.std.proofs.lemmas.List.{take_all}
-use Rattle.std.specs.Cmp.{IsTotalOrder}
+use Rattle.btree_walk.proofs.Common.{◌≡◌, ℕ, suc, ◌+◌, ◌<◌, ◌≤◌, Bool, true, false, List, [], ◌∷◌, ◌++◌, length, take, slice_get, Option, Some, None, refl, sym, ap, subst, ◌∙◌, option_map, arith, append_assoc, append-nil, take_all, IsTotalOrder, AllByRecursion, option_or, Ordering, Bound, Content, Node, view_of, internal, leaf, levels_below, AreRows, IsUnder, remaining_above, remaining_in, TreeState, views, Rises, Inside, remaining-push, under-internal, under-leaf, AllByRecursion-right, IsLast, branch_past, list_under, pair_past, Ancestor, rows_of}
 use Rattle.std.specs.FinMap as finite
-use Rattle.std.specs.List.{AllByRecursion}
-use Rattle.std.specs.Option.{option_or}
-use Rattle.std.specs.declared.cmp.Ordering.{Ordering}
-use Rattle.std.specs.declared.ops.Bound.{Bound}
-use Rattle.btree_store.specs.Content.{Content}
-use Rattle.btree_node.specs.declared.node.Node.{Node}
-use Rattle.btree_node.specs.Node.{view_of}
-use Rattle.btree_view.specs.View.{internal, leaf}
-use Rattle.btree_laws.specs.Focus.Search.{levels_below}
-use Rattle.btree_laws.specs.Remaining.{AreRows, IsUnder, remaining_above, remaining_in}
-use Rattle.btree_laws.specs.TreeState.{TreeState, views}
-use Rattle.btree_laws.proofs.LookUp.KeyInList.{Rises}
-use Rattle.btree_laws.proofs.LookUp.Walk.{Inside, Lowest, remaining-push, rows-pop, under-internal, under-leaf}
-use Rattle.btree_laws.proofs.Paths.Frames.{AllByRecursion-left, AllByRecursion-right}
-use Rattle.btree_walk.specs.Near.{AreSomewhere, IsCut, IsLast, IsLastOr, StopsAt, branch_past, child_in, item_or, list_below, list_under, pair_past}
-use Rattle.btree_walk.specs.declared.ancestors.Ancestor.{Ancestor}
-use Rattle.btree_walk.specs.Rows.{rows_of}
+use Rattle.btree_laws.proofs.LookUp.Walk.{Lowest, rows-pop}
+use Rattle.btree_laws.proofs.Paths.Frames.{AllByRecursion-left}
+use Rattle.btree_walk.specs.Near.{AreSomewhere, IsCut, IsLastOr, StopsAt, child_in, item_or, list_below}
 use Rattle.btree_walk.proofs.AtKeyLemmas.{remaining-parts}
 use Rattle.btree_walk.proofs.LevelLemmas.{IsLower, children-lower}
 use Rattle.btree_walk.proofs.NearLemmas.{ArePast, Searching, below-rises, cut-within, search-ends, search-on, search-past, search-split, within}

@@ -1,18 +1,12 @@
 -- A range of a rising list, from both ends: the pairs from the first one on, and the last pair that was found.
-use Rattle.std.proofs.Common.{◌≡◌, ◌∙◌, ℕ, ◌<◌, ◌≤◌, Bool, true, false, cond, not, ◌&&◌, List, [], ◌∷◌, ◌++◌, length, Option, Some, None, refl, sym, ap, subst, arith, append_assoc}
-use Rattle.std.specs.BTreeMap.Range.{entries_between, is_from_start, is_past_end, range_contains}
-use Rattle.std.specs.Cmp.{IsTotalOrder, tied_itself}
-use Rattle.std.specs.List.{AllByRecursion, filter}
-use Rattle.std.specs.Option.{option_or}
+use Rattle.btree_walk.proofs.Common.{◌≡◌, ◌∙◌, ℕ, ◌<◌, ◌≤◌, Bool, true, false, not, List, [], ◌∷◌, ◌++◌, length, Option, Some, None, refl, sym, ap, subst, arith, append_assoc, entries_between, range_contains, IsTotalOrder, AllByRecursion, filter, option_or, Ordering, Equal, Greater, Less, Bound, Unbounded, Rises, rises-right, AllByRecursion-append, AllByRecursion-right, IsLast, IsFirstOf, IsLastOf, from_first, left_until}
+use Rattle.std.proofs.Common.{cond, ◌&&◌}
+use Rattle.std.specs.BTreeMap.Range.{is_from_start, is_past_end}
+use Rattle.std.specs.Cmp.{tied_itself}
 use Rattle.std.specs.Ordering.{is_gt, is_le, is_lt}
-use Rattle.std.specs.declared.cmp.Ordering.{Ordering}
-use Rattle.std.specs.declared.cmp.Ordering.TheVariants.{Equal, Greater, Less}
-use Rattle.std.specs.declared.ops.Bound.{Bound}
-use Rattle.std.specs.declared.ops.Bound.TheVariants.{Excluded, Unbounded}
-use Rattle.btree_laws.proofs.LookUp.KeyInList.{Rises, reversed, reversed-back, rises-right}
-use Rattle.btree_laws.proofs.Paths.Frames.{AllByRecursion-append, AllByRecursion-right}
-use Rattle.btree_walk.specs.Near.{IsLast}
-use Rattle.btree_walk.specs.Ranges.{AreLeftSame, IsAhead, IsBehind, IsFirstOf, IsLastOf, bound_at, from_first, left_until}
+use Rattle.std.specs.declared.ops.Bound.TheVariants.{Excluded}
+use Rattle.btree_laws.proofs.LookUp.KeyInList.{reversed, reversed-back}
+use Rattle.btree_walk.specs.Ranges.{AreLeftSame, IsAhead, IsBehind, bound_at}
 use Rattle.btree_walk.proofs.BoundLemmas.{all-so, end-cut, filter-earlier, filter-none, from-start, start-cut, until-end}
 use Rattle.btree_walk.proofs.NearLemmas.{past-after, within}
 

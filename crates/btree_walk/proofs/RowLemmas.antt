@@ -1,14 +1,6 @@
 -- Rows of a walk: lists, and what an internal node represents read from its last child backwards.
-use Rattle.std.proofs.Common.{◌≡◌, ℕ, zero, suc, ◌+◌, ◌-◌, ◌<◌, ◌≤◌, List, [], ◌∷◌, ◌++◌, length, map, drop, take, slice_get, Option, Some, None, refl, sym, ap, subst, ◌∙◌, arith, append_assoc, append-nil}
-use Rattle.std.proofs.lemmas.List.{length_push}
-use Rattle.std.specs.Borrow.{Bor}
+use Rattle.btree_walk.proofs.Common.{◌≡◌, ℕ, zero, suc, ◌+◌, ◌-◌, ◌<◌, ◌≤◌, List, [], ◌∷◌, ◌++◌, length, map, drop, take, slice_get, Option, Some, None, refl, sym, ap, subst, ◌∙◌, arith, append_assoc, append-nil, length_push, Bor, AllByRecursion, NodeMap, internal, IsUnder, remaining_in, represented, under-internal, AreRowsBefore, preceding_above, preceding_in, with_child_before}
 use Rattle.std.specs.Iterator.{YieldsFirstRef, YieldsLastRef}
-use Rattle.std.specs.List.{AllByRecursion}
-use Rattle.btree_view.specs.View.{NodeMap, internal}
-use Rattle.btree_laws.specs.Remaining.{IsUnder, remaining_in}
-use Rattle.btree_laws.specs.Represents.{represented}
-use Rattle.btree_laws.proofs.LookUp.Walk.{under-internal}
-use Rattle.btree_walk.specs.Preceding.{AreRowsBefore, preceding_above, preceding_in, with_child_before}
 
 -- no elements of a list
 pub take-none : {X : Type 0} (xs : List X) → take 0 xs ≡ []

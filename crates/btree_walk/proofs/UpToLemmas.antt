@@ -1,28 +1,10 @@
 -- A backward walk that starts at a key, from the root down.
-use Rattle.std.proofs.Common.{◌≡◌, ℕ, zero, suc, ◌+◌, ◌-◌, ◌<◌, ◌≤◌, List, [], ◌∷◌, ◌++◌, length, length-append, map, take, slice_get, Option, Some, None, Result, Ok, Err, refl, sym, ap, subst, ◌∙◌, option_map, arith, append_assoc, append-nil}
-use Rattle.std.proofs.lemmas.List.{length-map, length_push, take_at}
-use Rattle.std.specs.BTreeMap.Range.{entries_between}
-use Rattle.std.specs.Cmp.{IsTotalOrder}
+use Rattle.btree_walk.proofs.Common.{◌≡◌, ℕ, zero, suc, ◌+◌, ◌-◌, ◌<◌, ◌≤◌, List, [], ◌∷◌, ◌++◌, length, length-append, map, take, slice_get, Option, Some, None, Result, Ok, Err, refl, sym, ap, subst, ◌∙◌, option_map, arith, append_assoc, append-nil, length-map, length_push, take_at, entries_between, IsTotalOrder, AllByRecursion, Ordering, Greater, Less, Included, Unbounded, Content, cuts_of, place_of, Node, view_of, NodeMap, View, internal, items_of, leaf, size_of, IsUnder, remaining_in, represented, views, AreAbove, AreBelow, Rises, ascends, rises-left, rises-right, searched, side, Inside, under-internal, under-leaf, AllByRecursion-append, AreRowsBefore, preceding_above, preceding_in, row_before, rows_before, with_child_before, Ancestor}
 use Rattle.std.specs.FinMap as finite
-use Rattle.std.specs.List.{AllByRecursion}
-use Rattle.std.specs.declared.cmp.Ordering.{Ordering}
-use Rattle.std.specs.declared.cmp.Ordering.TheVariants.{Greater, Less}
-use Rattle.std.specs.declared.ops.Bound.TheVariants.{Included, Unbounded}
-use Rattle.btree_store.specs.Content.{Content}
-use Rattle.btree_item.specs.KeyLaws.{cuts_of}
-use Rattle.btree_item.specs.Pairs.{Ascends, place_of}
-use Rattle.btree_node.specs.declared.node.Node.{Node}
-use Rattle.btree_node.specs.Node.{view_of}
-use Rattle.btree_view.specs.View.{NodeMap, View, internal, items_of, leaf, size_of}
-use Rattle.btree_laws.specs.Remaining.{IsUnder, remaining_in}
-use Rattle.btree_laws.specs.Represents.{represented}
-use Rattle.btree_laws.specs.TreeState.{views}
-use Rattle.btree_laws.proofs.LookUp.KeyInList.{AreAbove, AreBelow, Rises, ascends, rises-left, rises-right, searched, side}
-use Rattle.btree_laws.proofs.LookUp.Walk.{Inside, under-internal, under-leaf}
-use Rattle.btree_laws.proofs.Paths.Frames.{AllByRecursion-append, AllByRecursion-left}
+use Rattle.btree_item.specs.Pairs.{Ascends}
+use Rattle.btree_laws.proofs.Paths.Frames.{AllByRecursion-left}
 use Rattle.btree_walk.specs.AtKey.{up_to_in, up_to_place}
-use Rattle.btree_walk.specs.Preceding.{AreRowsBefore, branches_before, preceding_above, preceding_in, row_before, rows_before, with_child_before}
-use Rattle.btree_walk.specs.declared.ancestors.Ancestor.{Ancestor}
+use Rattle.btree_walk.specs.Preceding.{branches_before}
 use Rattle.btree_walk.proofs.AtKeyLemmas.{child-under, cut-list, cut-low, gap-none, gap-of, hit-of, node-rises, pair-left, pair-right, remaining-parts, row-high}
 use Rattle.btree_walk.proofs.BackLemmas.{AreOpenBefore, left_before, row_of, rows-before-push}
 use Rattle.btree_walk.proofs.BetweenLemmas.{up_to-hit, up_to-miss}

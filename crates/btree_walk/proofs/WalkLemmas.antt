@@ -1,19 +1,10 @@
 -- A walk down to a first leaf, and up to the next item.
-use Rattle.std.proofs.Common.{◌≡◌, ℕ, zero, suc, ◌+◌, ◌-◌, ◌<◌, List, [], ◌∷◌, ◌++◌, length, take, drop, Option, Some, None, IsSome, refl, sym, ap, subst, ◌∙◌, option_map, slice_get, arith}
-use Rattle.std.proofs.lemmas.List.{length-map, length_push, map-append, append_assoc}
-use Rattle.std.specs.List.{AllByRecursion}
+use Rattle.btree_walk.proofs.Common.{◌≡◌, ℕ, zero, suc, ◌+◌, ◌-◌, ◌<◌, List, [], ◌∷◌, ◌++◌, length, take, drop, Option, Some, None, IsSome, refl, sym, ap, subst, ◌∙◌, option_map, slice_get, arith, length-map, length_push, AllByRecursion, Content, Node, view_of, View, leaf, internal, branches_of, represented, views, remaining_above, remaining_in, IsUnder, AreRows, remaining-push, under-leaf, under-internal, Ancestor, rows_of}
+use Rattle.std.proofs.lemmas.List.{map-append, append_assoc}
 use Rattle.std.specs.FinMap as map
-use Rattle.btree_store.specs.Content.{Content}
-use Rattle.btree_node.specs.declared.node.Node.{Node}
-use Rattle.btree_node.specs.Node.{view_of}
-use Rattle.btree_view.specs.View.{View, leaf, internal, branches_of}
-use Rattle.btree_laws.specs.Represents.{Represents, represented}
-use Rattle.btree_laws.specs.TreeState.{views}
-use Rattle.btree_laws.specs.Remaining.{remaining_above, remaining_in, IsUnder, AreRows}
-use Rattle.btree_laws.proofs.LookUp.Walk.{remaining-push, rows-push, rows-pop, under-leaf, under-internal}
-use Rattle.btree_walk.specs.declared.ancestors.Ancestor.{Ancestor}
+use Rattle.btree_laws.specs.Represents.{Represents}
+use Rattle.btree_laws.proofs.LookUp.Walk.{rows-push, rows-pop}
 use Rattle.btree_node.proofs.RoomLemmas.{none-last}
-use Rattle.btree_walk.specs.Rows.{rows_of}
 use Rattle.btree_walk.proofs.RowLemmas.{split-last}
 
 module _ {K V : Type 0} where

@@ -1,14 +1,6 @@
 -- The list of the back addresses of a tree: each is in it once, and in order.
-use Rattle.std.proofs.Common.{◌≡◌, ◌∷◌, ◌+◌, ◌∙◌, [], ℕ, zero, suc, inl, true, List, length, Option, Some, None, refl, sym, ap, subst, arith, length-append}
-use Rattle.std.specs.Prelude.{slice_get, is_some}
-use Rattle.btree_view.specs.View.{NodeMap}
-use Rattle.btree_laws.specs.Addresses.{backs_under}
-use Rattle.btree_laws.specs.AddressLaws.{IsPlaced, IsPlacedUnder, ListsBacks, numbers_of}
-use Rattle.btree_laws.specs.Place.{IsBack, IsWithin}
-use Rattle.btree_laws.specs.Lists.{total}
-use Rattle.btree_laws.specs.Focus.Subtree.{Subtree, items_under, later_items}
-use Rattle.btree_laws.specs.Represents.{numbers_under}
-use Rattle.btree_laws.specs.Focus.Positions.{Position, branch_key, branch_positions, positions_from, positions}
+use Rattle.btree_laws.proofs.Common.{◌≡◌, ◌∷◌, ◌+◌, ◌∙◌, [], ℕ, zero, suc, inl, true, List, length, Option, Some, None, refl, sym, ap, subst, arith, length-append, slice_get, is_some, NodeMap, backs_under, IsPlaced, IsPlacedUnder, numbers_of, IsBack, IsWithin, total, Subtree, items_under, later_items, numbers_under, Position, branch_key, branch_positions, positions_from, positions}
+use Rattle.btree_laws.specs.AddressLaws.{ListsBacks}
 use Rattle.btree_laws.proofs.AddressLists.OfPositions.{back-positions, keep_back}
 use Rattle.btree_laws.proofs.Trees.Density.{nodes_in}
 use Rattle.btree_laws.proofs.Places.HasPlace.{has_place}

@@ -1,15 +1,6 @@
 -- The order of the back addresses of a tree: each follows the one before it by a rule.
-use Rattle.std.proofs.Common.{◌≡◌, ◌<◌, ◌∙◌, ◌+◌, [], ℕ, zero, suc, List, length, Option, Some, None, sym, ap, subst, arith, append-nil}
-use Rattle.std.specs.Prelude.{slice_get}
-use Rattle.btree_item.specs.Address.{Address}
-use Rattle.btree_view.specs.View.{NodeMap, View, leaf, children_in, parent_of, size_of}
-use Rattle.btree_laws.specs.Addresses.{backs_under, first_leaf}
-use Rattle.btree_laws.specs.AddressLaws.{IsPlaced}
-use Rattle.btree_laws.specs.Focus.Subtree.{Subtree, count_at, id_of, view_at}
-use Rattle.btree_laws.specs.Focus.Positions.{address_at, positions, positions_after, positions_before}
+use Rattle.btree_laws.proofs.Common.{◌≡◌, ◌<◌, ◌∙◌, ◌+◌, [], ℕ, zero, suc, List, length, Option, Some, None, sym, ap, subst, arith, append-nil, slice_get, Address, NodeMap, View, leaf, children_in, parent_of, size_of, backs_under, first_leaf, IsPlaced, Subtree, count_at, id_of, view_at, address_at, positions, positions_after, positions_before, Path, frame_id, frame_index, parent_above, top, under, IsUnsizedFocus}
 use Rattle.btree_laws.specs.Visits.{VisitsBacks}
-use Rattle.btree_laws.specs.Focus.Path.{Path, frame_id, frame_index, parent_above, top, under}
-use Rattle.btree_laws.specs.Focus.Focus.{IsUnsizedFocus}
 use Rattle.btree_laws.proofs.AddressLists.OfPositions.{back-positions, keep_back}
 use Rattle.btree_laws.proofs.AddressLists.Neighbours.{Adjacent, adjacent-down, adjacent-node, adjacent-up, after-is, end-is, kept-parts, no-higher, node_positions-next}
 use Rattle.btree_laws.proofs.AddressLists.BackAddresses.{backs-listed}

@@ -1,11 +1,6 @@
 -- The back and front addresses at which the positions of a tree, and the parts before and after a hole, begin and end.
-use Rattle.std.proofs.Common.{◌≡◌, ◌<◌, ◌++◌, ◌∷◌, ◌∙◌, ◌+◌, [], ℕ, zero, suc, Bool, List, length, map, Option, Some, None, refl, sym, ap, subst, arith, append_assoc, append-nil, length-append}
-use Rattle.std.specs.List.{AllByRecursion}
-use Rattle.btree_item.specs.Address.{Address}
-use Rattle.btree_view.specs.View.{NodeMap, leaf}
-use Rattle.btree_laws.specs.Addresses.{first_leaf, first_leaf_in, last_child, last_item, last_item_in, last_leaf, last_leaf_in, slot_before}
-use Rattle.btree_laws.specs.Focus.Subtree.{Holds, Subtree, count_at, id_of}
-use Rattle.btree_laws.specs.Focus.Positions.{Position, branch_key, branch_positions, address_before, mark, address_at, positions_from, positions_to, positions}
+use Rattle.btree_laws.proofs.Common.{◌≡◌, ◌<◌, ◌++◌, ◌∷◌, ◌∙◌, ◌+◌, [], ℕ, zero, suc, Bool, List, length, map, Option, Some, None, refl, sym, ap, subst, arith, append_assoc, append-nil, length-append, AllByRecursion, Address, NodeMap, leaf, first_leaf, last_item, slot_before, Holds, Subtree, count_at, id_of, Position, branch_key, branch_positions, address_before, mark, address_at, positions_from, positions_to, positions}
+use Rattle.btree_laws.specs.Addresses.{first_leaf_in, last_child, last_item_in, last_leaf, last_leaf_in}
 use Rattle.btree_laws.proofs.AddressLists.OfPositions.{keep_back, keep_front}
 use Rattle.btree_laws.proofs.LookUp.Descent.{snoc}
 use Rattle.btree_laws.proofs.Paths.Frames.{AllByRecursion-right}

@@ -1,16 +1,6 @@
 -- The list of the front addresses of a tree: each is in it once, and in order.
-use Rattle.std.proofs.Common.{◌≡◌, ◌≤◌, ◌∷◌, ◌+◌, ◌∙◌, [], ℕ, zero, suc, inl, inr, true, List, length, Option, Some, None, refl, sym, ap, subst, arith, length-append}
-use Rattle.std.proofs.lemmas.Option.{slice_get_cases, slice_get_within}
-use Rattle.std.specs.Prelude.{slice_get, is_some}
-use Rattle.btree_view.specs.View.{NodeMap, View, item_in, items_of}
-use Rattle.btree_laws.specs.Addresses.{fronts_under}
-use Rattle.btree_laws.specs.AddressLaws.{IsFront, IsPlaced, IsPlacedUnder, ListsFronts, numbers_of}
-use Rattle.btree_laws.specs.Focus.TreePositions.{IsAddressed}
-use Rattle.btree_laws.specs.Place.{IsPlace, IsWithin}
-use Rattle.btree_laws.specs.Lists.{total}
-use Rattle.btree_laws.specs.Focus.Subtree.{Subtree, items_under, later_items}
-use Rattle.btree_laws.specs.Represents.{numbers_under}
-use Rattle.btree_laws.specs.Focus.Positions.{IsExpected, Position, branch_key, branch_positions, positions_from, positions}
+use Rattle.btree_laws.proofs.Common.{◌≡◌, ◌≤◌, ◌∷◌, ◌+◌, ◌∙◌, [], ℕ, zero, suc, inl, inr, true, List, length, Option, Some, None, refl, sym, ap, subst, arith, length-append, slice_get_cases, slice_get_within, slice_get, is_some, NodeMap, View, item_in, items_of, fronts_under, IsFront, IsPlaced, IsPlacedUnder, numbers_of, IsAddressed, IsPlace, IsWithin, total, Subtree, items_under, later_items, numbers_under, IsExpected, Position, branch_key, branch_positions, positions_from, positions}
+use Rattle.btree_laws.specs.AddressLaws.{ListsFronts}
 use Rattle.btree_laws.proofs.AddressLists.OfPositions.{front-positions, is_front, keep_front}
 use Rattle.btree_laws.proofs.Trees.Density.{nodes_in}
 use Rattle.btree_laws.proofs.Places.HasPlace.{has_place}

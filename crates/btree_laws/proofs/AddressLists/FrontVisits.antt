@@ -1,15 +1,6 @@
 -- The order of the front addresses of a tree: each comes before the next by a rule.
-use Rattle.std.proofs.Common.{◌≡◌, ◌<◌, ◌∙◌, [], ℕ, zero, suc, List, length, Option, Some, None, sym, ap, subst, arith, append-nil}
-use Rattle.std.specs.Prelude.{slice_get}
-use Rattle.btree_item.specs.Address.{Address}
-use Rattle.btree_view.specs.View.{NodeMap, View, leaf, children_in, parent_of, size_of}
-use Rattle.btree_laws.specs.Addresses.{fronts_under, last_item, slot_before}
-use Rattle.btree_laws.specs.AddressLaws.{IsFront, IsPlaced}
-use Rattle.btree_laws.specs.Focus.Subtree.{Subtree, id_of, view_at}
-use Rattle.btree_laws.specs.Focus.Positions.{address_before, address_at, positions, positions_after, positions_before}
+use Rattle.btree_laws.proofs.Common.{◌≡◌, ◌<◌, ◌∙◌, [], ℕ, zero, suc, List, length, Option, Some, None, sym, ap, subst, arith, append-nil, slice_get, Address, NodeMap, View, leaf, children_in, parent_of, size_of, fronts_under, last_item, slot_before, IsFront, IsPlaced, Subtree, id_of, view_at, address_before, address_at, positions, positions_after, positions_before, Path, frame_count, frame_id, frame_index, frame_view, parent_above, top, under, IsUnsizedFocus}
 use Rattle.btree_laws.specs.Visits.{VisitsFronts}
-use Rattle.btree_laws.specs.Focus.Path.{Path, frame_count, frame_id, frame_index, frame_view, parent_above, top, under}
-use Rattle.btree_laws.specs.Focus.Focus.{IsUnsizedFocus}
 use Rattle.btree_laws.proofs.AddressLists.OfPositions.{front-positions, keep_front}
 use Rattle.btree_laws.proofs.AddressLists.Neighbours.{Adjacent, adjacent-down, adjacent-node, adjacent-up, before-is, end-before, kept-parts, no-higher, node_positions-prior, start-is}
 use Rattle.btree_laws.proofs.Paths.ChildFocus.{child-at, front-after, front-before}

@@ -1,16 +1,9 @@
 -- The list of the occupied addresses of a tree: each is at the index that is its place. Navigation and cursors will
 -- cite it.
-use Rattle.std.proofs.Common.{◌≡◌, ◌<◌, ◌≤◌, ◌∙◌, ◌∷◌, [], ℕ, zero, suc, inl, inr, true, List, length, Option, Some, None, refl, sym, ap, subst, arith, option_and_then}
-use Rattle.std.proofs.lemmas.Option.{slice_get_cases, slice_get_within}
-use Rattle.std.specs.List.{AllByRecursion}
-use Rattle.std.specs.Prelude.{slice_get, is_some}
-use Rattle.btree_item.specs.Address.{Address}
-use Rattle.btree_view.specs.View.{NodeMap, View, item_in, items_of}
+use Rattle.btree_laws.proofs.Common.{◌≡◌, ◌<◌, ◌≤◌, ◌∙◌, ◌∷◌, [], ℕ, zero, suc, inl, inr, true, List, length, Option, Some, None, refl, sym, ap, subst, arith, option_and_then, slice_get_cases, slice_get_within, AllByRecursion, slice_get, is_some, Address, NodeMap, View, item_in, items_of, IsPlaced, IsPlacedUnder, IsEnd, IsPlace, IsPlaceOf, item_at, Subtree, Position, branch_key, branch_positions, positions_from, positions}
 use Rattle.btree_laws.specs.Addresses.{item_addresses_under}
-use Rattle.btree_laws.specs.AddressLaws.{IsPlaced, IsPlacedUnder, ListsItems}
-use Rattle.btree_laws.specs.Place.{IsEnd, IsOccupied, IsPlace, IsPlaceOf, item_at}
-use Rattle.btree_laws.specs.Focus.Subtree.{Subtree}
-use Rattle.btree_laws.specs.Focus.Positions.{Position, branch_key, branch_positions, positions_from, positions}
+use Rattle.btree_laws.specs.AddressLaws.{ListsItems}
+use Rattle.btree_laws.specs.Place.{IsOccupied}
 use Rattle.btree_laws.proofs.Places.Words.{item-within}
 use Rattle.btree_laws.proofs.AddressLists.OfPositions.{item-positions, keep_item}
 use Rattle.btree_laws.proofs.AddressLists.Kept.{Strung, kept, strung-append}

@@ -1,9 +1,6 @@
 -- The addresses of a list of positions that are kept, in order: the index of each, and how many items are passed before
 -- it.
-use Rattle.std.proofs.Common.{◌≡◌, ◌<◌, ◌≤◌, ◌++◌, ◌∷◌, [], ◌∙◌, ◌+◌, ℕ, zero, suc, inl, inr, Bool, true, false, List, length, Option, Some, refl, sym, ap, subst, arith}
-use Rattle.std.specs.Prelude.{slice_get}
-use Rattle.btree_item.specs.Address.{Address}
-use Rattle.btree_laws.specs.Focus.Positions.{IsExpected, IsAt, Position, mark, over, passed}
+use Rattle.btree_laws.proofs.Common.{◌≡◌, ◌<◌, ◌≤◌, ◌++◌, ◌∷◌, [], ◌∙◌, ◌+◌, ℕ, zero, suc, inl, inr, Bool, true, false, List, length, Option, Some, refl, sym, ap, subst, arith, slice_get, Address, IsExpected, IsAt, Position, mark, over, passed}
 
 abbrev pub put : Bool → Address → List Address → List Address
 put true a list = a ∷ list

@@ -1,10 +1,5 @@
 -- An address is kept once: it is among the positions at most as often as its number is in the tree.
-use Rattle.std.proofs.Common.{◌≡◌, ◌<◌, ◌≤◌, ◌++◌, ◌∷◌, ◌+◌, ◌∙◌, [], ℕ, zero, suc, inl, inr, Bool, true, false, List, Option, Some, None, refl, sym, ap, subst, arith}
-use Rattle.std.specs.Prelude.{slice_get}
-use Rattle.btree_item.specs.Address.{Address}
-use Rattle.btree_laws.specs.Lists.{one, total}
-use Rattle.btree_laws.specs.Focus.Subtree.{Subtree, times_under}
-use Rattle.btree_laws.specs.Focus.Positions.{Position, branch_key, branch_positions, address_before, mark, over, address_at, positions_from, positions}
+use Rattle.btree_laws.proofs.Common.{◌≡◌, ◌<◌, ◌≤◌, ◌++◌, ◌∷◌, ◌+◌, ◌∙◌, [], ℕ, zero, suc, inl, inr, Bool, true, false, List, Option, Some, None, refl, sym, ap, subst, arith, slice_get, Address, one, total, Subtree, times_under, Position, branch_key, branch_positions, address_before, mark, over, address_at, positions_from, positions}
 use Rattle.btree_laws.proofs.Paths.Frames.{one-other, one-self}
 use Rattle.btree_laws.proofs.AddressLists.Kept.{kept, put}
 use Rattle.btree_laws.proofs.Trees.Numbers.{same-or}

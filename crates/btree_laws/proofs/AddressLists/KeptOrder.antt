@@ -1,15 +1,6 @@
 -- What is kept of the positions of a tree is in order, each address once; and how many nodes and items a tree has.
-use Rattle.std.proofs.Common.{◌≡◌, ◌≤◌, ◌∷◌, ◌+◌, ◌∙◌, [], ℕ, suc, inl, inr, Bool, List, length, Option, Some, None, refl, sym, ap, subst, arith, length-append}
-use Rattle.std.specs.Prelude.{slice_get}
-use Rattle.btree_item.specs.Address.{Address}
-use Rattle.btree_view.specs.View.{NodeMap}
-use Rattle.btree_laws.specs.AddressLaws.{IsInOrder, IsPlaced, IsPlacedUnder, numbers_of}
-use Rattle.btree_laws.specs.Place.{IsValid, IsWithin}
-use Rattle.btree_laws.specs.Lists.{times_listed, total}
-use Rattle.btree_laws.specs.Focus.Subtree.{Subtree, items_under, later_items, times_under}
-use Rattle.btree_laws.specs.Represents.{numbers_under}
-use Rattle.btree_laws.specs.Focus.Positions.{positions}
-use Rattle.btree_laws.specs.WellFormed.{times_used}
+use Rattle.btree_laws.proofs.Common.{◌≡◌, ◌≤◌, ◌∷◌, ◌+◌, ◌∙◌, [], ℕ, suc, inl, inr, Bool, List, length, Option, Some, None, refl, sym, ap, subst, arith, length-append, slice_get, Address, NodeMap, IsPlaced, IsPlacedUnder, numbers_of, IsValid, IsWithin, times_listed, total, Subtree, items_under, later_items, times_under, numbers_under, positions, times_used}
+use Rattle.btree_laws.specs.AddressLaws.{IsInOrder}
 use Rattle.btree_laws.proofs.Trees.Density.{node-numbers, nodes_in}
 use Rattle.btree_laws.proofs.AddressLists.Kept.{kept, passed-rise}
 use Rattle.btree_laws.proofs.AddressLists.KeptOnce.{kept-once}

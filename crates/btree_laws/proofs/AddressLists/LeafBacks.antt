@@ -1,15 +1,8 @@
 -- The list of the back addresses in the leaves of a tree: each is at the index that is its place.
-use Rattle.std.proofs.Common.{◌≡◌, ◌≤◌, ◌∙◌, ◌∷◌, [], ℕ, zero, suc, inl, inr, true, false, Bool, List, length, Option, Some, None, refl, sym, ap, subst, arith}
-use Rattle.std.proofs.lemmas.Option.{slice_get_cases}
-use Rattle.std.specs.List.{AllByRecursion}
-use Rattle.std.specs.Prelude.{slice_get}
-use Rattle.btree_item.specs.Address.{Address}
-use Rattle.btree_view.specs.View.{NodeMap, View, leaf, internal}
+use Rattle.btree_laws.proofs.Common.{◌≡◌, ◌≤◌, ◌∙◌, ◌∷◌, [], ℕ, zero, suc, inl, inr, true, false, Bool, List, length, Option, Some, None, refl, sym, ap, subst, arith, slice_get_cases, AllByRecursion, slice_get, Address, NodeMap, View, leaf, internal, IsPlaced, IsPlacedUnder, NOWHERE, IsBack, IsPlace, IsValid, Holds, Subtree, Position, branch_key, branch_positions, address_at, positions_from, positions}
 use Rattle.btree_laws.specs.Addresses.{leaf_backs_under}
-use Rattle.btree_laws.specs.AddressLaws.{IsPlaced, IsPlacedUnder, ListsLeafBacks}
-use Rattle.btree_laws.specs.Place.{NOWHERE, IsBack, IsLeaf, IsLeafAddress, IsNowhere, IsPlace, IsValid}
-use Rattle.btree_laws.specs.Focus.Subtree.{Holds, Subtree}
-use Rattle.btree_laws.specs.Focus.Positions.{Position, branch_key, branch_positions, address_at, positions_from, positions}
+use Rattle.btree_laws.specs.AddressLaws.{ListsLeafBacks}
+use Rattle.btree_laws.specs.Place.{IsLeaf, IsLeafAddress, IsNowhere}
 use Rattle.btree_laws.proofs.AddressLists.OfPositions.{is_leaf_back, keep_leaf_back, leaf-back-positions}
 use Rattle.btree_laws.proofs.AddressLists.Kept.{Counts, Strung, kept, strung-append}
 use Rattle.btree_laws.proofs.AddressLists.OnePlaceEach.{addressed-strung, strung-addressed, strung-counted, ticks_of, as-subtree}

@@ -1,13 +1,7 @@
 -- The leftmost and the rightmost leaf under a node and under its children; and more levels change neither these nor the
 -- lists. Walks from both ends cite it.
-use Rattle.std.proofs.Common.{◌≡◌, ◌<◌, ◌∷◌, ◌∙◌, [], ℕ, zero, suc, List, length, map, Option, Some, refl, sym, ap, subst, arith}
-use Rattle.std.specs.List.{AllByRecursion}
-use Rattle.std.specs.Prelude.{slice_get}
-use Rattle.btree_view.specs.View.{NodeMap, leaf, internal}
-use Rattle.btree_laws.specs.Addresses.{first_leaf, first_leaf_in, last_child, last_leaf, last_leaf_in}
-use Rattle.btree_laws.specs.AddressLaws.{IsPlaced}
-use Rattle.btree_laws.specs.Focus.Subtree.{Holds, Subtree, id_of, view_at}
-use Rattle.btree_laws.specs.Focus.Path.{parent_above}
+use Rattle.btree_laws.proofs.Common.{◌≡◌, ◌<◌, ◌∷◌, ◌∙◌, [], ℕ, zero, suc, List, length, map, Option, Some, refl, sym, ap, subst, arith, AllByRecursion, slice_get, NodeMap, leaf, internal, first_leaf, IsPlaced, Holds, Subtree, id_of, view_at, parent_above}
+use Rattle.btree_laws.specs.Addresses.{first_leaf_in, last_child, last_leaf, last_leaf_in}
 use Rattle.btree_laws.proofs.AddressLists.Neighbours.{no-higher}
 use Rattle.btree_laws.proofs.Trees.Numbers.{used-there}
 use Rattle.btree_laws.proofs.AddressLists.OnePlaceEach.{as-subtree}

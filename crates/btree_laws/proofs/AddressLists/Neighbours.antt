@@ -1,16 +1,6 @@
 -- Addresses that follow one another in a list, and in what is kept of positions.
-use Rattle.std.proofs.Common.{◌≡◌, ◌<◌, ◌≤◌, ◌++◌, ◌∷◌, ◌∙◌, ◌+◌, [], ℕ, zero, suc, Bool, List, length, Option, Some, None, refl, sym, ap, subst, arith, append_assoc, length-append}
-use Rattle.std.specs.Prelude.{slice_get}
-use Rattle.btree_item.specs.Address.{Address}
-use Rattle.btree_view.specs.View.{NodeMap}
-use Rattle.btree_laws.specs.Addresses.{slot_before}
-use Rattle.btree_laws.specs.AddressLaws.{IsPlaced}
-use Rattle.btree_laws.specs.Focus.Search.{levels_below}
-use Rattle.btree_laws.specs.Focus.Subtree.{Subtree, id_of}
-use Rattle.btree_laws.specs.Focus.Positions.{Position, address_before, address_at, positions_from, positions, positions_after, positions_before, path_after, path_before}
+use Rattle.btree_laws.proofs.Common.{◌≡◌, ◌<◌, ◌≤◌, ◌++◌, ◌∷◌, ◌∙◌, ◌+◌, [], ℕ, zero, suc, Bool, List, length, Option, Some, None, refl, sym, ap, subst, arith, append_assoc, length-append, slice_get, Address, NodeMap, slot_before, IsPlaced, levels_below, Subtree, id_of, Position, address_before, address_at, positions_from, positions, positions_after, positions_before, path_after, path_before, Path, Frame, fill, frame_index, top, under, IsUnsizedFocus}
 use Rattle.btree_laws.specs.Visits.{ComesBefore}
-use Rattle.btree_laws.specs.Focus.Path.{Path, Frame, fill, frame_index, top, under}
-use Rattle.btree_laws.specs.Focus.Focus.{IsUnsizedFocus}
 use Rattle.btree_laws.proofs.AddressLists.OfPositions.{keep_back, keep_front}
 use Rattle.btree_laws.proofs.LookUp.Descent.{get-after}
 use Rattle.btree_laws.proofs.Trees.Heights.{levels-is}

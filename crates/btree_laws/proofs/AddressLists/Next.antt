@@ -1,19 +1,9 @@
 -- The functions that give the next address agree with the lists.
-use Rattle.std.proofs.Common.{◌≡◌, ◌≢◌, ◌<◌, ◌≤◌, ◌∷◌, ◌∙◌, [], ℕ, zero, suc, inl, inr, true, false, List, length, map, Option, Some, None, refl, sym, ap, subst, arith, option_map, ◌⊎◌}
-use Rattle.std.proofs.lemmas.Bool.Decides.{nat_tests}
-use Rattle.std.proofs.lemmas.List.{length-map}
-use Rattle.std.proofs.lemmas.Option.{slice_get_cases, slice_get_past}
-use Rattle.std.specs.Prelude.{slice_get, nat_lt, ◌==◌}
-use Rattle.btree_item.specs.Address.{Address}
-use Rattle.btree_view.specs.View.{NodeMap, View, leaf, internal, children_in, children_of, parent_of, size_of}
-use Rattle.btree_laws.specs.Addresses.{backs_under, fronts_under, last_item, slot_before}
-use Rattle.btree_laws.specs.AddressLaws.{IsFront, IsPlaced}
-use Rattle.btree_laws.specs.Place.{IsBack, IsWithin}
-use Rattle.btree_laws.specs.Focus.Subtree.{Subtree, id_of, view_at}
-use Rattle.btree_laws.specs.Focus.Positions.{address_before, address_at}
-use Rattle.btree_laws.specs.Visits.{ComesBefore, VisitsBacks, VisitsFronts, back_after, back_after_at, back_after_in, front_before, front_before_at, front_before_in, in_parent, index_in, prior}
-use Rattle.btree_laws.specs.Focus.Path.{Path, frame_id, frame_index, parent_above, top, under}
-use Rattle.btree_laws.specs.Focus.Focus.{IsUnsizedFocus}
+use Rattle.btree_laws.proofs.Common.{◌≡◌, ◌≢◌, ◌<◌, ◌≤◌, ◌∷◌, ◌∙◌, [], ℕ, zero, suc, inl, inr, true, false, List, length, map, Option, Some, None, refl, sym, ap, subst, arith, ◌⊎◌, nat_tests, length-map, slice_get_cases, slice_get, nat_lt, Address, NodeMap, View, leaf, internal, children_in, children_of, parent_of, size_of, backs_under, fronts_under, last_item, slot_before, IsFront, IsPlaced, IsBack, IsWithin, Subtree, id_of, view_at, address_before, address_at, back_after, front_before, Path, frame_id, frame_index, parent_above, top, under, IsUnsizedFocus}
+use Rattle.std.proofs.Common.{option_map}
+use Rattle.std.proofs.lemmas.Option.{slice_get_past}
+use Rattle.std.specs.Prelude.{◌==◌}
+use Rattle.btree_laws.specs.Visits.{ComesBefore, VisitsBacks, VisitsFronts, back_after_at, back_after_in, front_before_at, front_before_in, in_parent, index_in, prior}
 use Rattle.btree_laws.proofs.AddressLists.BackAddresses.{backs-listed}
 use Rattle.btree_laws.proofs.AddressLists.BackVisits.{backs-visited}
 use Rattle.btree_laws.proofs.Paths.Parents.{index-here}

@@ -1,12 +1,6 @@
 -- The lists of addresses of a tree are what is kept of its positions.
-use Rattle.std.proofs.Common.{◌≡◌, ◌<◌, ◌++◌, ◌∷◌, [], ◌∙◌, ℕ, zero, suc, Bool, true, false, List, map, Option, Some, None, refl, sym, ap, arith}
-use Rattle.std.specs.List.{AllByRecursion, flat_map}
-use Rattle.std.specs.Prelude.{is_some}
-use Rattle.btree_item.specs.Address.{Address}
-use Rattle.btree_view.specs.View.{View, leaf, internal, NodeMap}
+use Rattle.btree_laws.proofs.Common.{◌≡◌, ◌<◌, ◌++◌, ◌∷◌, [], ◌∙◌, ℕ, zero, suc, Bool, true, false, List, map, Option, Some, None, refl, sym, ap, arith, AllByRecursion, flat_map, is_some, Address, View, leaf, internal, NodeMap, Holds, Subtree, id_of, Position, branch_key, branch_positions, address_at, positions_from, positions}
 use Rattle.btree_laws.specs.Addresses.{slots, slots_to_end, item_addresses, item_addresses_in, leaf_backs, leaf_backs_in, backs, backs_in, fronts, fronts_in}
-use Rattle.btree_laws.specs.Focus.Subtree.{Holds, Subtree, id_of}
-use Rattle.btree_laws.specs.Focus.Positions.{Position, branch_key, branch_positions, address_at, positions_from, positions}
 use Rattle.btree_laws.proofs.AddressLists.Kept.{kept, kept-append, put}
 
 -- which positions are kept: those at an item; the back ones in a leaf; the back ones; the front ones

@@ -1,16 +1,5 @@
 -- Trees in which each address has one place: which trees these are, and what is kept of their positions.
-use Rattle.std.proofs.Common.{◌≡◌, ◌<◌, ◌∙◌, ◌+◌, ℕ, Bool, true, List, length, Option, Some, None, sym, ap, subst, arith}
-use Rattle.std.proofs.lemmas.Option.{slice_get_within}
-use Rattle.std.specs.Cmp.{IsTotalOrder}
-use Rattle.std.specs.Prelude.{slice_get}
-use Rattle.std.specs.declared.cmp.Ordering.{Ordering}
-use Rattle.btree_item.specs.Address.{Address}
-use Rattle.btree_view.specs.View.{NodeMap}
-use Rattle.btree_laws.specs.AddressLaws.{IsPlaced}
-use Rattle.btree_laws.specs.Focus.TreePositions.{IsAddressed, HasPosition}
-use Rattle.btree_laws.specs.Focus.Subtree.{Holds, Subtree, id_of, items_under}
-use Rattle.btree_laws.specs.Focus.Positions.{IsExpected, Position, IsAt, positions, passed}
-use Rattle.btree_laws.specs.WellFormed.{IsWellFormed}
+use Rattle.btree_laws.proofs.Common.{◌≡◌, ◌<◌, ◌∙◌, ◌+◌, ℕ, Bool, true, List, length, Option, Some, None, sym, ap, subst, arith, slice_get_within, IsTotalOrder, slice_get, Ordering, Address, NodeMap, IsPlaced, IsAddressed, HasPosition, Holds, Subtree, id_of, items_under, IsExpected, Position, IsAt, positions, passed, IsWellFormed}
 use Rattle.btree_laws.proofs.Splits.KeptPositions.{positions-passed}
 use Rattle.btree_laws.proofs.AddressLists.Kept.{IndexOf, Strung, kept, kept-at, kept-of, passed_to, strung-index, strung-length}
 use Rattle.btree_laws.proofs.Places.OnePlace.{one_place-well}

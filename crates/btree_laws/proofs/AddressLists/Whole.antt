@@ -1,18 +1,10 @@
 -- A well formed tree, and one that is off by one at a node, has the lists of its addresses, in the order that the rules
 -- give. Navigation and cursors cite it.
-use Rattle.std.proofs.Common.{◌≡◌, ℕ, suc, List, length, Option, Some, None, refl}
-use Rattle.std.specs.Cmp.{IsTotalOrder}
+use Rattle.btree_laws.proofs.Common.{◌≡◌, ℕ, suc, List, length, Option, Some, None, refl, IsTotalOrder, slice_get, Ordering, Address, NodeMap, backs_under, fronts_under, last_item, IsPlacedUnder, numbers_of, back_after, front_before, IsWellFormed}
 use Rattle.std.specs.FinMap as finite
-use Rattle.std.specs.Prelude.{slice_get}
-use Rattle.std.specs.declared.cmp.Ordering.{Ordering}
-use Rattle.btree_item.specs.Address.{Address}
-use Rattle.btree_view.specs.View.{NodeMap}
-use Rattle.btree_laws.specs.Addresses.{backs_under, fronts_under, last_item}
-use Rattle.btree_laws.specs.AddressLaws.{IsPlacedUnder, numbers_of}
 use Rattle.btree_laws.specs.TreeAddresses.{HasAddresses, first_back_under, last_front_under}
 use Rattle.btree_laws.specs.TreeState.{TreeState, IsBTree, node_map, pairs_of}
-use Rattle.btree_laws.specs.Visits.{back_after, front_before, prior}
-use Rattle.btree_laws.specs.WellFormed.{IsWellFormed}
+use Rattle.btree_laws.specs.Visits.{prior}
 use Rattle.btree_laws.proofs.AddressLists.BackAddresses.{backs-listed}
 use Rattle.btree_laws.proofs.AddressLists.BackVisits.{backs-visited}
 use Rattle.btree_laws.proofs.AddressLists.FrontAddresses.{fronts-listed}

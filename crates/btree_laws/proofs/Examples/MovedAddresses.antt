@@ -1,9 +1,7 @@
 -- The new addresses after each step, checked by computing at numbers. Left is node 10, right is 11, their parent is 9,
 -- the item between them is at offset 2 (in a split node 10 is child 2 of node 9), left has 3 items (3 stay in a split),
 -- and the first child of right, if it has one, is 20.
-use Rattle.std.proofs.Common.{◌≡◌, Some, None, refl}
-use Rattle.btree_laws.specs.Moved.{moved_by_merge, moved_by_shrink_root, moved_by_rotate_left, moved_by_rotate_right, moved_by_split, moved_by_take}
-use Rattle.btree_laws.specs.Focus.Positions.{address_before, address_at}
+use Rattle.btree_laws.proofs.Common.{◌≡◌, Some, None, refl, moved_by_merge, moved_by_shrink_root, moved_by_rotate_left, moved_by_rotate_right, moved_by_split, moved_by_take, address_before, address_at}
 
 -- a split: before the median, at it, after it; in the parent before the child index and from it on; elsewhere
 pub split_front : moved_by_split 10 11 9 2 3 (address_before 10) ≡ address_before 10

@@ -1,9 +1,6 @@
 -- The order of the underflow fixes at small trees, checked line by line.
-use Rattle.std.proofs.Common.{◌≡◌, ◌≢◌, ℕ, zero, suc, [], ◌∷◌, Some, None, refl, arith}
-use Rattle.btree_view.specs.View.{leaf, internal, NodeMap}
-use Rattle.btree_laws.specs.SiblingSteps.{Merges, ShrinksRoot, RotatesLeft}
+use Rattle.btree_laws.proofs.Common.{◌≡◌, ◌≢◌, ℕ, zero, suc, [], ◌∷◌, Some, None, refl, arith, leaf, internal, NodeMap, Merges, ShrinksRoot, RotatesLeft, times_listed}
 use Rattle.btree_laws.specs.UnderflowFix.{IsUnderflowFixed, borrows, empties, from_right, merges, shrinks_root, with_right}
-use Rattle.btree_laws.specs.Lists.{times_listed}
 
 -- the middle leaf has two items, and both its siblings have one to spare: it borrows one from the right sibling
 abbrev short : NodeMap ℕ

@@ -1,7 +1,5 @@
 -- How many nodes splits need, checked by computing: leaf 1 under root 0, by their numbers of items.
-use Rattle.std.proofs.Common.{◌≡◌, ◌∷◌, [], ℕ, zero, suc, List, Some, None, refl}
-use Rattle.btree_view.specs.View.{NodeMap, internal, leaf}
-use Rattle.btree_laws.specs.Need.{split_need}
+use Rattle.btree_laws.proofs.Common.{◌≡◌, ◌∷◌, [], ℕ, zero, suc, List, Some, None, refl, NodeMap, internal, leaf, split_need}
 
 abbrev eight : List ℕ
 eight = 0 ∷ 1 ∷ 2 ∷ 3 ∷ 4 ∷ 5 ∷ 6 ∷ 7 ∷ []

@@ -1,11 +1,7 @@
 -- The lists of addresses of a tree of two levels, written out: root 2 with the item 4 over the leaves 0, with the items
 -- 0 to 3, and 1, with the items 5 to 8; and those of the empty tree.
-use Rattle.std.proofs.Common.{◌≡◌, [], ◌∷◌, Some, None, refl, ℕ, zero, suc}
-use Rattle.btree_view.specs.View.{NodeMap, leaf, internal}
-use Rattle.btree_laws.specs.Addresses.{item_addresses_under, leaf_backs_under, backs_under, fronts_under}
-use Rattle.btree_laws.specs.Place.{NOWHERE}
-use Rattle.btree_laws.specs.Focus.Positions.{address_before, address_at}
-use Rattle.btree_laws.specs.Visits.{back_after, front_before}
+use Rattle.btree_laws.proofs.Common.{◌≡◌, [], ◌∷◌, Some, None, refl, ℕ, zero, suc, NodeMap, leaf, internal, backs_under, fronts_under, NOWHERE, address_before, address_at, back_after, front_before}
+use Rattle.btree_laws.specs.Addresses.{item_addresses_under, leaf_backs_under}
 
 abbrev tree : NodeMap ℕ
 tree zero = Some (leaf (Some 2) (0 ∷ 1 ∷ 2 ∷ 3 ∷ []))

@@ -1,8 +1,6 @@
 -- The positions of a tree of two levels, written out: root 2 with the item 4 over the leaves 0, with the items 0 to 3,
 -- and 1, with the items 5 to 8.
-use Rattle.std.proofs.Common.{◌≡◌, ℕ, List, [], ◌∷◌, ◌++◌, Some, None, refl}
-use Rattle.btree_laws.specs.Focus.Subtree.{Subtree}
-use Rattle.btree_laws.specs.Focus.Positions.{Position, mark, over, address_before, address_at, positions, passed}
+use Rattle.btree_laws.proofs.Common.{◌≡◌, ℕ, List, [], ◌∷◌, ◌++◌, Some, None, refl, Subtree, Position, mark, over, address_before, address_at, positions, passed}
 
 abbrev base : Subtree ℕ 1
 base = (2, (0, 0 ∷ 1 ∷ 2 ∷ 3 ∷ []), (4, (1, 5 ∷ 6 ∷ 7 ∷ 8 ∷ [])) ∷ [])

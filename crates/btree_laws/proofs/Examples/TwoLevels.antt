@@ -1,14 +1,7 @@
 -- The definitions at a tree of two levels, checked line by line: the keys 0 to 8, inserted in order, make a root 2 with
 -- the item 4 over the leaves 0, with the items 0 to 3, and 1, with the items 5 to 8.
-use Rattle.std.proofs.Common.{◌≡◌, ℕ, zero, suc, ◌≤◌, List, [], ◌∷◌, ◌++◌, Some, None, refl, inl, inr, arith, rules}
-use Rattle.std.proofs.lemmas.Bool.Decides.{nat_tests}
-use Rattle.std.specs.List.Sorted.{IsStrictlySortedBy}
-use Rattle.std.specs.Ordering.{nat_cmp}
-use Rattle.btree_view.specs.View.{View, leaf, internal, NodeMap, size_of, most_of}
-use Rattle.btree_laws.specs.Represents.{Represents, numbers_under, represented}
-use Rattle.btree_laws.specs.WellFormed.{times_used, least_of, IsNearlySized, IsWellFormed, IsOffByOne}
-use Rattle.btree_laws.specs.Place.{NOWHERE, IsSubtreeAt, IsPlace, IsValid}
-use Rattle.btree_laws.specs.Lists.{times_listed}
+use Rattle.btree_laws.proofs.Common.{◌≡◌, ℕ, zero, suc, ◌≤◌, List, [], ◌∷◌, ◌++◌, Some, None, refl, inl, inr, arith, nat_tests, IsStrictlySortedBy, nat_cmp, View, leaf, internal, NodeMap, size_of, most_of, Represents, numbers_under, represented, times_used, least_of, IsNearlySized, IsWellFormed, IsOffByOne, NOWHERE, IsSubtreeAt, IsPlace, IsValid, times_listed}
+use Rattle.std.proofs.Common.{rules}
 
 abbrev Pair : Type 0
 Pair = ℕ × ℕ

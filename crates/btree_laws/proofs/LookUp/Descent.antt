@@ -1,19 +1,6 @@
 -- A search for a key that goes down: what the items of a node decide about the whole list, and which child is next.
-use Rattle.std.proofs.Common.{◌≡◌, ◌<◌, ◌++◌, ◌∷◌, [], ◌∙◌, ℕ, zero, suc, List, length, map, Option, Some, Err, refl, sym, ap, subst, arith, append_assoc, append-nil, length-append}
-use Rattle.std.proofs.lemmas.Grind.{flat_map-append}
-use Rattle.std.proofs.lemmas.List.{length-map, map-append}
-use Rattle.std.specs.List.{AllByRecursion}
-use Rattle.std.specs.Prelude.{slice_get}
-use Rattle.std.specs.declared.cmp.Ordering.{Ordering}
-use Rattle.std.specs.declared.cmp.Ordering.TheVariants.{Less}
-use Rattle.btree_item.specs.Keys.{Cuts}
-use Rattle.btree_item.specs.Pairs.{Ascends, place_of}
-use Rattle.btree_view.specs.View.{NodeMap, View, children_of, items_of, leaf}
-use Rattle.btree_laws.specs.Focus.Search.{IsPart, IsSearching, levels_below}
-use Rattle.btree_laws.specs.Focus.Subtree.{IsFilled, Subtree, count_at, id_of, items_under, later_items, view_at}
-use Rattle.btree_laws.specs.Focus.Path.{Path, Frame, after_in, at_branch, at_first, before_in, fill, frame_id, items_after, items_before, least_at, parent_above, under}
-use Rattle.btree_laws.specs.Focus.Focus.{HasFocus, IsFocus}
-use Rattle.btree_laws.specs.Focus.Node.{IsNode}
+use Rattle.btree_laws.proofs.Common.{◌≡◌, ◌<◌, ◌++◌, ◌∷◌, [], ◌∙◌, ℕ, zero, suc, List, length, map, Option, Some, Err, refl, sym, ap, subst, arith, append_assoc, append-nil, length-append, flat_map-append, length-map, map-append, AllByRecursion, slice_get, Ordering, Less, Cuts, Ascends, place_of, NodeMap, View, children_of, items_of, leaf, levels_below, IsFilled, Subtree, count_at, id_of, items_under, later_items, view_at, Path, Frame, after_in, at_branch, at_first, before_in, fill, frame_id, items_after, items_before, least_at, parent_above, under, HasFocus, IsFocus, IsNode}
+use Rattle.btree_laws.specs.Focus.Search.{IsPart, IsSearching}
 use Rattle.btree_laws.proofs.Paths.Frames.{AllByRecursion-append, AllByRecursion-right, fill-id, fill-items, top-view}
 use Rattle.btree_laws.proofs.Trees.Heights.{height-fits, levels-is}
 use Rattle.btree_laws.proofs.Trees.Sizes.{view-items}

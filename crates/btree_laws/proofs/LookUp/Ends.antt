@@ -1,18 +1,9 @@
 -- The end of a search: at the item of a node, or at a leaf's address for a key that is not there.
-use Rattle.std.proofs.Common.{◌≡◌, ◌++◌, ◌∷◌, [], ◌∙◌, ◌+◌, ℕ, zero, suc, List, length, map, take, Option, Some, None, Ok, Err, refl, sym, ap, subst, arith, append_assoc, length-append}
-use Rattle.std.proofs.lemmas.Grind.{flat_map-append}
-use Rattle.std.proofs.lemmas.List.{length-map, take_at}
-use Rattle.std.specs.Prelude.{slice_get}
-use Rattle.std.specs.declared.cmp.Ordering.{Ordering}
-use Rattle.std.specs.declared.cmp.Ordering.TheVariants.{Equal, Greater, Less}
-use Rattle.btree_item.specs.Keys.{Cuts}
-use Rattle.btree_item.specs.Pairs.{found, place_of}
-use Rattle.btree_view.specs.View.{NodeMap, View, item_in, items_of, leaf}
-use Rattle.btree_laws.specs.Place.{IsPlace}
+use Rattle.btree_laws.proofs.Common.{◌≡◌, ◌++◌, ◌∷◌, [], ◌∙◌, ◌+◌, ℕ, zero, suc, List, length, map, take, Option, Some, None, Err, refl, sym, ap, subst, arith, append_assoc, length-append, flat_map-append, length-map, slice_get, Ordering, Equal, Greater, Less, Cuts, place_of, NodeMap, View, item_in, items_of, leaf, IsPlace, Subtree, id_of, items_under, later_items, view_at, Path, items_before, parent_above, IsFocus}
+use Rattle.std.proofs.Common.{Ok}
+use Rattle.std.proofs.lemmas.List.{take_at}
+use Rattle.btree_item.specs.Pairs.{found}
 use Rattle.btree_laws.specs.Focus.Search.{IsPart, IsSearching}
-use Rattle.btree_laws.specs.Focus.Subtree.{Subtree, id_of, items_under, later_items, view_at}
-use Rattle.btree_laws.specs.Focus.Path.{Path, items_before, parent_above}
-use Rattle.btree_laws.specs.Focus.Focus.{IsFocus}
 use Rattle.btree_laws.proofs.LookUp.Descent.{get-after, map-parts, hole-rises, items-rise, part-rises}
 use Rattle.btree_laws.proofs.Paths.Frames.{AllByRecursion-append}
 use Rattle.btree_laws.proofs.Places.NodePlaces.{hole-place, items_upto}

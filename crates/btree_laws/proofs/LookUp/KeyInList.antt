@@ -1,16 +1,11 @@
 -- Where a key is, or would be, in a list whose keys ascend: the list in parts.
-use Rattle.std.proofs.Common.{◌≡◌, ◌++◌, ◌∷◌, [], ◌∙◌, ◌+◌, ℕ, zero, suc, cond, List, length, Some, None, Result, Ok, Err, refl, sym, ap, subst, arith}
+use Rattle.btree_laws.proofs.Common.{◌≡◌, ◌++◌, ◌∷◌, [], ◌∙◌, ◌+◌, ℕ, zero, suc, List, length, Some, None, Err, refl, sym, ap, subst, arith, IsTotalOrder, AllByRecursion, IsStrictlySortedBy, Ordering, Equal, Greater, Less, Cuts, Ascends, place_of}
+use Rattle.std.proofs.Common.{cond, Result, Ok}
 use Rattle.std.proofs.lemmas.List.Sums.{sum_by-cons}
-use Rattle.std.specs.Cmp.{IsTotalOrder}
-use Rattle.std.specs.List.{AllByRecursion}
-use Rattle.std.specs.List.Sorted.{IsStrictlySortedBy}
 use Rattle.std.specs.Map.{keys_of}
 use Rattle.std.specs.Ordering.{is_lt}
-use Rattle.std.specs.declared.cmp.Ordering.{Ordering}
-use Rattle.std.specs.declared.cmp.Ordering.TheVariants.{Equal, Greater, Less}
-use Rattle.btree_item.specs.Keys.{Cuts}
 use Rattle.btree_item.proofs.KeyLemmas.{before_below, before_equal}
-use Rattle.btree_item.specs.Pairs.{Ascends, before, found, place_of}
+use Rattle.btree_item.specs.Pairs.{before, found}
 use Rattle.btree_laws.proofs.Paths.Frames.{AllByRecursion-left, AllByRecursion-right}
 
 module _ {K V : Type 0} (cmp : K → K → Ordering) where

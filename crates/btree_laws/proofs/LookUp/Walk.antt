@@ -1,8 +1,5 @@
 -- A walk through a tree: down to a first leaf, and on to the next item above.
-use Rattle.std.proofs.Common.{◌≡◌, ℕ, zero, suc, ◌+◌, ◌<◌, List, [], ◌∷◌, ◌++◌, length, map, Option, Some, refl, sym, ap, ◌∙◌, arith, append_assoc, append-nil}
-use Rattle.std.specs.List.{flat_map, AllByRecursion}
-use Rattle.btree_view.specs.View.{leaf, internal, NodeMap}
-use Rattle.btree_laws.specs.Represents.{Represents, represented}
+use Rattle.btree_laws.proofs.Common.{◌≡◌, ℕ, zero, suc, ◌+◌, ◌<◌, List, [], ◌∷◌, ◌++◌, length, map, Option, Some, refl, sym, ap, ◌∙◌, arith, append_assoc, append-nil, flat_map, AllByRecursion, leaf, internal, NodeMap, Represents, represented}
 use Rattle.btree_laws.specs.Remaining.{remaining_in, remaining_above, IsUnder, AreRows}
 use Rattle.btree_laws.proofs.Trees.Represented.{represented-is}
 

@@ -1,14 +1,6 @@
 -- A focus at the child at an index of a node, and the positions next to that child's.
-use Rattle.std.proofs.Common.{◌≡◌, ◌<◌, ◌++◌, ◌∷◌, ◌∙◌, ◌+◌, [], ℕ, zero, suc, List, length, map, Option, Some, None, Bool, true, refl, sym, ap, subst, arith, append_assoc}
-use Rattle.std.specs.Prelude.{slice_get}
-use Rattle.btree_item.specs.Address.{Address}
-use Rattle.btree_view.specs.View.{NodeMap, View, children_in, children_of}
-use Rattle.btree_laws.specs.Addresses.{slot_before}
-use Rattle.btree_laws.specs.Focus.Subtree.{Subtree, id_of, view_at}
-use Rattle.btree_laws.specs.Focus.Positions.{Position, branch_key, branch_positions, branches_after, address_before, mark, over, address_at, positions_to, positions, positions_after, positions_before}
-use Rattle.btree_laws.specs.Focus.Path.{Path, Frame, at_branch, at_first, frame_count, frame_id, frame_index, parent_above, under}
-use Rattle.btree_laws.specs.WellFormed.{IsRooted, times_used}
-use Rattle.btree_laws.specs.Focus.Focus.{IsUnsizedFocus}
+use Rattle.btree_laws.proofs.Common.{◌≡◌, ◌<◌, ◌++◌, ◌∷◌, ◌∙◌, ◌+◌, [], ℕ, zero, suc, List, length, map, Option, Some, None, Bool, true, refl, sym, ap, subst, arith, append_assoc, slice_get, Address, NodeMap, View, children_in, children_of, slot_before, Subtree, id_of, view_at, Position, branch_key, branch_positions, address_before, mark, over, address_at, positions_to, positions, positions_after, positions_before, Path, Frame, at_branch, at_first, frame_count, frame_id, frame_index, parent_above, under, IsRooted, times_used, IsUnsizedFocus}
+use Rattle.btree_laws.specs.Focus.Positions.{branches_after}
 use Rattle.btree_laws.proofs.AddressLists.OfPositions.{keep_back, keep_front}
 use Rattle.btree_laws.proofs.LookUp.Descent.{child-numbers}
 use Rattle.btree_laws.proofs.Paths.Frames.{top-view}

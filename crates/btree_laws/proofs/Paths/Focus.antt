@@ -1,9 +1,5 @@
 -- The focus moves from a node to its parent and to a child: the tree stays the same.
-use Rattle.std.proofs.Common.{◌≡◌, ◌++◌, ◌∷◌, ◌∙◌, ℕ, suc, List, sym, ap, subst, arith, append_assoc}
-use Rattle.btree_view.specs.View.{NodeMap}
-use Rattle.btree_laws.specs.Focus.Subtree.{IsFilled, IsFilledBelow, Subtree, count_at, items_under}
-use Rattle.btree_laws.specs.Focus.Path.{Path, Frame, HoldsAbove, SiblingsFilled, after_in, at_branch, at_first, before_in, fill, frame_count, items_after, items_before, least_at, parent_above, root_above, under}
-use Rattle.btree_laws.specs.Focus.Focus.{IsFocus}
+use Rattle.btree_laws.proofs.Common.{◌≡◌, ◌++◌, ◌∷◌, ◌∙◌, ℕ, suc, List, sym, ap, subst, arith, append_assoc, NodeMap, IsFilled, IsFilledBelow, Subtree, count_at, items_under, Path, Frame, HoldsAbove, SiblingsFilled, after_in, at_branch, at_first, before_in, fill, frame_count, items_after, items_before, least_at, parent_above, root_above, under, IsFocus}
 use Rattle.btree_laws.proofs.Paths.Frames.{AllByRecursion-left, AllByRecursion-right, fill-count, fill-filled, fill-holds, fill-id, fill-items, fill-times, open-holds}
 
 module _ (A : Type 0) where

@@ -1,13 +1,5 @@
 -- A frame filled with a child, and trees in stores that agree at the tree's numbers.
-use Rattle.std.proofs.Common.{◌≡◌, ◌≢◌, ◌<◌, ◌++◌, ◌∷◌, [], ◌∙◌, ◌+◌, ℕ, zero, suc, List, length, Option, Some, refl, sym, ap, arith, append_assoc, length-append}
-use Rattle.std.proofs.lemmas.Bool.Decides.{nat_tests}
-use Rattle.std.proofs.lemmas.Grind.{flat_map-append}
-use Rattle.std.proofs.lemmas.List.{map-append}
-use Rattle.std.specs.List.{AllByRecursion}
-use Rattle.btree_view.specs.View.{NodeMap, internal}
-use Rattle.btree_laws.specs.Lists.{one, total}
-use Rattle.btree_laws.specs.Focus.Subtree.{Holds, IsFilled, IsFilledBelow, Subtree, count_at, id_of, items_under, times_under, view_at}
-use Rattle.btree_laws.specs.Focus.Path.{Path, Frame, HoldsAbove, SiblingsFilled, SiblingsHold, after_in, at_branch, at_first, before_in, fill, frame_count, frame_id, frame_view, times_above, times_in_siblings, times_in, top, under}
+use Rattle.btree_laws.proofs.Common.{◌≡◌, ◌≢◌, ◌<◌, ◌++◌, ◌∷◌, [], ◌∙◌, ◌+◌, ℕ, zero, suc, List, length, Option, Some, refl, sym, ap, arith, append_assoc, length-append, nat_tests, flat_map-append, map-append, AllByRecursion, NodeMap, internal, one, total, Holds, IsFilled, IsFilledBelow, Subtree, count_at, id_of, items_under, times_under, view_at, Path, Frame, HoldsAbove, SiblingsFilled, SiblingsHold, after_in, at_branch, at_first, before_in, fill, frame_count, frame_id, frame_view, times_above, times_in_siblings, times_in, top, under}
 
 -- what holds of all elements of two lists holds of those of both together
 pub AllByRecursion-append : {X : Type 0} (P : X → Type 0) (xs ys : List X) → AllByRecursion P xs → AllByRecursion P ys

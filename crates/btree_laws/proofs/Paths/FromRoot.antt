@@ -1,14 +1,6 @@
 -- Between the public definitions of a tree and a focus at one of its nodes.
-use Rattle.std.proofs.Common.{◌≡◌, ◌≢◌, ◌<◌, ◌≤◌, [], ◌∙◌, ◌+◌, ℕ, suc, inl, inr, List, Some, None, refl, sym, ap, subst, arith, append-nil}
-use Rattle.std.proofs.lemmas.Bool.Decides.{nat_tests}
-use Rattle.btree_view.specs.View.{NodeMap, View, most_of, size_of}
-use Rattle.btree_laws.specs.Focus.Node.{IsNode, IsExemptNode}
-use Rattle.btree_laws.specs.Lists.{one, times_listed}
-use Rattle.btree_laws.specs.Focus.Subtree.{Holds, IsFilled, IsFilledBelow, Subtree, count_at, id_of, items_under, most_at, times_under, view_at}
-use Rattle.btree_laws.specs.Represents.{Represents, numbers_under}
-use Rattle.btree_laws.specs.Focus.Path.{Path, AreFilled, Frame, HoldsAbove, frame_id, frame_view, least_at, parent_above, root_above, times_above, times_in_siblings, top, under}
-use Rattle.btree_laws.specs.WellFormed.{IsNearlySized, IsRooted, IsSized, excess_allowed, least_allowed, least_of, times_used}
-use Rattle.btree_laws.specs.Focus.Focus.{IsUnsizedFocus, IsFocus}
+use Rattle.btree_laws.proofs.Common.{◌≡◌, ◌≢◌, ◌<◌, ◌≤◌, [], ◌∙◌, ◌+◌, ℕ, suc, inl, inr, List, Some, None, refl, sym, ap, subst, arith, append-nil, nat_tests, NodeMap, View, most_of, size_of, IsNode, IsExemptNode, one, times_listed, Holds, IsFilled, IsFilledBelow, Subtree, count_at, id_of, items_under, most_at, times_under, view_at, Represents, numbers_under, Path, AreFilled, Frame, HoldsAbove, frame_id, frame_view, least_at, parent_above, root_above, times_above, times_in_siblings, top, under, IsNearlySized, IsRooted, IsSized, least_of, times_used, IsUnsizedFocus, IsFocus}
+use Rattle.btree_laws.specs.WellFormed.{excess_allowed, least_allowed}
 use Rattle.btree_laws.proofs.Paths.Frames.{one-other, one-self, one-zero, times_in-is, top-view}
 use Rattle.btree_laws.proofs.Trees.Numbers.{numbers-subtree, same-or, times-has, used-low, used-one, zero-or}
 use Rattle.btree_laws.proofs.Trees.Sizes.{above-sized, below-filled, below-middle, frame-most, frame-size, frames-filled, least-low, least-other, least-root, root-there, view-most, view-size}

@@ -1,11 +1,5 @@
 -- The levels above a node of a tree and those below it are together those of the tree.
-use Rattle.std.proofs.Common.{◌≡◌, ◌+◌, ◌∙◌, ℕ, suc, List, [], None, sym, ap, subst, arith}
-use Rattle.btree_view.specs.View.{NodeMap, View}
-use Rattle.btree_laws.specs.Focus.Search.{levels_below}
-use Rattle.btree_laws.specs.Focus.Subtree.{Subtree}
-use Rattle.btree_laws.specs.Focus.Path.{Path, depth, fill, top, under}
-use Rattle.btree_laws.specs.WellFormed.{IsRooted}
-use Rattle.btree_laws.specs.Focus.Focus.{IsUnsizedFocus}
+use Rattle.btree_laws.proofs.Common.{◌≡◌, ◌+◌, ◌∙◌, ℕ, suc, List, [], None, sym, ap, subst, arith, NodeMap, View, levels_below, Subtree, Path, depth, fill, top, under, IsRooted, IsUnsizedFocus}
 use Rattle.btree_laws.proofs.Trees.Heights.{levels-is}
 use Rattle.btree_laws.proofs.Trees.Subtrees.{subtree-of}
 use Rattle.btree_laws.proofs.Paths.UnsizedFocus.{unsized-up}

@@ -1,12 +1,5 @@
 -- From a node to its parent: which child it is, and how many levels are left.
-use Rattle.std.proofs.Common.{◌≡◌, ◌<◌, ◌≤◌, ◌++◌, ◌∷◌, [], ◌∙◌, ◌+◌, ℕ, zero, suc, List, length, map, Option, Some, refl, sym, ap, subst, arith, length-append}
-use Rattle.std.proofs.lemmas.List.{map-append}
-use Rattle.std.specs.Prelude.{slice_get}
-use Rattle.btree_view.specs.View.{NodeMap, View, children_of, parent_of}
-use Rattle.btree_laws.specs.Need.{levels_above}
-use Rattle.btree_laws.specs.Lists.{one, times_listed, total}
-use Rattle.btree_laws.specs.Focus.Subtree.{Subtree, id_of, items_under, later_items, times_under}
-use Rattle.btree_laws.specs.Focus.Path.{Path, AreFilled, Frame, HoldsAbove, after_in, at_branch, at_first, before_in, depth, frame_count, frame_id, frame_index, frame_view, items_after, items_before, parent_above, times_in_siblings, top, under}
+use Rattle.btree_laws.proofs.Common.{◌≡◌, ◌<◌, ◌≤◌, ◌++◌, ◌∷◌, [], ◌∙◌, ◌+◌, ℕ, zero, suc, List, length, map, Option, Some, refl, sym, ap, subst, arith, length-append, map-append, slice_get, NodeMap, View, children_of, parent_of, levels_above, one, times_listed, total, Subtree, id_of, items_under, later_items, times_under, Path, AreFilled, Frame, HoldsAbove, after_in, at_branch, at_first, before_in, depth, frame_count, frame_id, frame_index, frame_view, items_after, items_before, parent_above, times_in_siblings, top, under}
 use Rattle.btree_laws.proofs.LookUp.Descent.{get-after}
 use Rattle.btree_laws.proofs.Paths.Frames.{one-self}
 use Rattle.btree_laws.proofs.Trees.Heights.{low-enough}

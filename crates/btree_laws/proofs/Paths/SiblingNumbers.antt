@@ -1,15 +1,5 @@
 -- A node and the children before and after it, by the numbers in their parent.
-use Rattle.std.proofs.Common.{◌≡◌, ◌≤◌, ◌++◌, ◌∷◌, [], ◌∙◌, ◌+◌, ℕ, suc, List, length, map, Option, Some, refl, sym, ap, subst, arith, append_assoc, length-append}
-use Rattle.std.proofs.lemmas.Option.{same_Some, slice_get_within}
-use Rattle.std.specs.Prelude.{IsTrue, slice_get}
-use Rattle.btree_item.specs.Address.{Address}
-use Rattle.btree_view.specs.Edits.{is_internal}
-use Rattle.btree_view.specs.View.{NodeMap, View, children_of, internal, leaf, size_of}
-use Rattle.btree_laws.specs.Focus.Subtree.{Subtree, count_at, id_of, most_at}
-use Rattle.btree_laws.specs.Focus.Strain.{strain_of}
-use Rattle.btree_laws.specs.Focus.Positions.{IsAt, all_positions}
-use Rattle.btree_laws.specs.Focus.Path.{Path, Frame, at_branch, at_first, fill, fill_two, frame_count, frame_id, frame_index, frame_view, parent_above, under}
-use Rattle.btree_laws.specs.Focus.Focus.{IsFocus}
+use Rattle.btree_laws.proofs.Common.{◌≡◌, ◌≤◌, ◌++◌, ◌∷◌, [], ◌∙◌, ◌+◌, ℕ, suc, List, length, map, Option, Some, refl, sym, ap, subst, arith, append_assoc, length-append, same_Some, slice_get_within, IsTrue, slice_get, Address, is_internal, NodeMap, View, children_of, internal, leaf, size_of, Subtree, count_at, id_of, most_at, strain_of, IsAt, all_positions, Path, Frame, at_branch, at_first, fill, fill_two, frame_count, frame_id, frame_index, frame_view, parent_above, under, IsFocus}
 use Rattle.btree_laws.proofs.Underflow.Adjacent.{adjacent-steps, AdjacentSteps}
 use Rattle.btree_laws.proofs.Paths.Parents.{index-is}
 use Rattle.btree_laws.proofs.LookUp.Descent.{get-after}

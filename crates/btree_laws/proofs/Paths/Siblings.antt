@@ -1,12 +1,5 @@
 -- Two adjacent siblings, whatever their numbers of items: a node and the child before or after it.
-use Rattle.std.proofs.Common.{◌≡◌, ◌<◌, ◌++◌, ◌∷◌, [], ◌∙◌, ◌+◌, ℕ, suc, List, map, Some, refl, sym, ap, subst, arith, append_assoc, append-nil, length-append}
-use Rattle.std.proofs.lemmas.Grind.{flat_map-append}
-use Rattle.std.proofs.lemmas.List.{map-append}
-use Rattle.btree_view.specs.View.{NodeMap, internal}
-use Rattle.btree_laws.specs.Focus.Subtree.{Holds, IsFilled, IsFilledBelow, Subtree, count_at, id_of, items_under, times_under, view_at}
-use Rattle.btree_laws.specs.Focus.Path.{Path, AreFilled, Frame, HoldsAbove, SiblingsFilled, SiblingsHold, after_in, at_branch, at_first, before_in, fill, fill_two, frame_count, frame_id, frame_index, items_after, items_before, parent_above, root_above, times_above, times_in, under}
-use Rattle.btree_laws.specs.WellFormed.{times_used}
-use Rattle.btree_laws.specs.Focus.Focus.{IsFocus}
+use Rattle.btree_laws.proofs.Common.{◌≡◌, ◌<◌, ◌++◌, ◌∷◌, [], ◌∙◌, ◌+◌, ℕ, suc, List, map, Some, refl, sym, ap, subst, arith, append_assoc, append-nil, length-append, flat_map-append, map-append, NodeMap, internal, Holds, IsFilled, IsFilledBelow, Subtree, count_at, id_of, items_under, times_under, view_at, Path, AreFilled, Frame, HoldsAbove, SiblingsFilled, SiblingsHold, after_in, at_branch, at_first, before_in, fill, fill_two, frame_count, frame_id, frame_index, items_after, items_before, parent_above, root_above, times_above, times_in, under, times_used, IsFocus}
 use Rattle.btree_laws.proofs.Splits.KeptPositions.{Alone}
 use Rattle.btree_laws.proofs.LookUp.Descent.{snoc}
 use Rattle.btree_laws.proofs.Paths.Frames.{AllByRecursion-left, AllByRecursion-right, fill-view, times_in-is, total-append}

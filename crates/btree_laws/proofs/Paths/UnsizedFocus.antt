@@ -1,9 +1,5 @@
 -- A focus whatever the numbers of items are: up to the root and down to any node.
-use Rattle.std.proofs.Common.{◌≡◌, ◌<◌, ◌++◌, ◌∙◌, ℕ, zero, suc, inl, inr, List, sym, ap, subst, arith}
-use Rattle.btree_view.specs.View.{NodeMap}
-use Rattle.btree_laws.specs.Focus.Subtree.{IsFilledBelow, Subtree, id_of, items_under, times_under}
-use Rattle.btree_laws.specs.Focus.Path.{Path, AreFilled, Frame, HoldsAbove, after_in, at_branch, at_first, before_in, fill, items_after, items_before, parent_above, root_above, top, under}
-use Rattle.btree_laws.specs.Focus.Focus.{IsFocus, IsUnsizedFocus}
+use Rattle.btree_laws.proofs.Common.{◌≡◌, ◌<◌, ◌++◌, ◌∙◌, ℕ, zero, suc, inl, inr, List, sym, ap, subst, arith, NodeMap, IsFilledBelow, Subtree, id_of, items_under, times_under, Path, AreFilled, Frame, HoldsAbove, after_in, at_branch, at_first, before_in, fill, items_after, items_before, parent_above, root_above, top, under, IsFocus, IsUnsizedFocus}
 use Rattle.btree_laws.proofs.Paths.Frames.{fill-holds, fill-id, fill-items, fill-times, one-other, open-holds}
 use Rattle.btree_laws.proofs.Trees.Numbers.{pick, same-or, zero-or}
 use Rattle.btree_laws.proofs.Paths.Focus.{regroup}

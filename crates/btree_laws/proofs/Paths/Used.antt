@@ -1,12 +1,5 @@
 -- Choices by a test on two numbers; and a node of the tree is used.
-use Rattle.std.proofs.Common.{◌≡◌, ◌≢◌, ◌<◌, ◌≤◌, ◌==◌, if◌then◌else◌, ℕ, List, Some, subst, arith}
-use Rattle.std.proofs.lemmas.Bool.Decides.{nat_tests}
-use Rattle.std.specs.Prelude.{nat_lt}
-use Rattle.btree_view.specs.View.{NodeMap}
-use Rattle.btree_laws.specs.Focus.Node.{IsNode}
-use Rattle.btree_laws.specs.Focus.Subtree.{view_at}
-use Rattle.btree_laws.specs.Focus.Path.{parent_above}
-use Rattle.btree_laws.specs.WellFormed.{times_used}
+use Rattle.btree_laws.proofs.Common.{◌≡◌, ◌≢◌, ◌<◌, ◌≤◌, ◌==◌, if◌then◌else◌, ℕ, List, Some, subst, arith, nat_tests, nat_lt, NodeMap, IsNode, view_at, parent_above, times_used}
 use Rattle.btree_laws.proofs.Paths.Frames.{top-view}
 use Rattle.btree_laws.proofs.Trees.Numbers.{used-one}
 

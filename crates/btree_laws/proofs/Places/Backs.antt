@@ -1,11 +1,6 @@
 -- A back address stays one: no step moves an offset other than -1 to -1.
-use Rattle.std.proofs.Common.{◌+◌, ◌-◌, ◌==◌, if◌then◌else◌, ℕ, zero, suc, Bool, true, false, Option, Some, None}
-use Rattle.std.specs.Prelude.{nat_lt}
-use Rattle.btree_item.specs.Address.{Address}
-use Rattle.btree_view.specs.View.{NodeMap}
-use Rattle.btree_laws.specs.Moved.{at_separator, select_by_order, left_after_lending, right_after_merge, right_after_lending, right_after_borrowing, node_after_split, moved_by_merge, moved_by_rotate_left, moved_by_rotate_right, moved_by_split, parent_after_merge, parent_after_split}
-use Rattle.btree_laws.specs.Place.{IsBack}
-use Rattle.btree_laws.specs.Focus.Positions.{address_at}
+use Rattle.btree_laws.proofs.Common.{◌+◌, ◌-◌, ◌==◌, if◌then◌else◌, ℕ, zero, suc, Bool, true, false, Option, Some, None, nat_lt, Address, NodeMap, at_separator, moved_by_merge, moved_by_rotate_left, moved_by_rotate_right, moved_by_split, IsBack, address_at}
+use Rattle.btree_laws.specs.Moved.{select_by_order, left_after_lending, right_after_merge, right_after_lending, right_after_borrowing, node_after_split, parent_after_merge, parent_after_split}
 
 by-all : {X : Type 0} (P : X → Type 0) (b : Bool) (here there : X) → P here → P there → P (if b then here else there)
 by-all P true here there h t = h

@@ -1,15 +1,6 @@
 -- The places around a child of a node: before its subtree and after it. In the node the child's index has the second,
 -- and the address before that index, or -1, leads to the first.
-use Rattle.std.proofs.Common.{◌≡◌, ◌<◌, ◌≤◌, ◌++◌, ◌∷◌, [], ◌∙◌, ◌+◌, ℕ, zero, suc, List, length, take, Option, Some, None, refl, sym, ap, subst, arith, length-append, append-nil}
-use Rattle.std.specs.Prelude.{slice_get}
-use Rattle.btree_view.specs.View.{NodeMap, View, children_in, parent_of, size_of}
-use Rattle.btree_laws.specs.AddressLaws.{IsPlaced}
-use Rattle.btree_laws.specs.Need.{levels_above}
-use Rattle.btree_laws.specs.Place.{IsPlace}
-use Rattle.btree_laws.specs.Focus.Focus.{IsUnsizedFocus}
-use Rattle.btree_laws.specs.Focus.Path.{Frame, Path, at_branch, at_first, before_in, depth, fill, frame_id, frame_index, frame_view, items_before, parent_above, under}
-use Rattle.btree_laws.specs.Focus.Search.{levels_below}
-use Rattle.btree_laws.specs.Focus.Subtree.{Subtree, count_at, id_of, items_under, later_items, view_at}
+use Rattle.btree_laws.proofs.Common.{◌≡◌, ◌<◌, ◌≤◌, ◌++◌, ◌∷◌, [], ◌∙◌, ◌+◌, ℕ, zero, suc, List, length, take, Option, Some, None, refl, sym, ap, subst, arith, length-append, append-nil, slice_get, NodeMap, View, children_in, parent_of, size_of, IsPlaced, levels_above, IsPlace, IsUnsizedFocus, Frame, Path, at_branch, at_first, before_in, depth, fill, frame_id, frame_index, frame_view, items_before, parent_above, under, levels_below, Subtree, count_at, id_of, items_under, later_items, view_at}
 use Rattle.btree_laws.proofs.Paths.ChildFocus.{child-at}
 use Rattle.btree_laws.proofs.Paths.Frames.{fill-count, fill-id, top-view}
 use Rattle.btree_laws.proofs.Paths.Levels.{levels-rooted}

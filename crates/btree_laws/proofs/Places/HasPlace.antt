@@ -1,14 +1,7 @@
 -- Each address in a node of a tree has a place.
-use Rattle.std.proofs.Common.{◌≡◌, ◌⊎◌, ℕ, zero, suc, ◌+◌, ◌≤◌, List, [], ◌∷◌, ◌++◌, length, map, Option, Some, None, refl, sym, ap, subst, ◌∙◌, inl, inr, arith}
-use Rattle.std.specs.Prelude.{slice_get}
-use Rattle.std.specs.List.{flat_map}
-use Rattle.btree_view.specs.View.{View, internal, NodeMap, items_of, item_in}
-use Rattle.btree_laws.specs.Represents.{Represents, numbers_under}
-use Rattle.btree_laws.specs.WellFormed.{times_used}
-use Rattle.btree_laws.specs.Place.{IsPlace, IsPlaceOf, IsEnd, IsWithin}
+use Rattle.btree_laws.proofs.Common.{◌≡◌, ◌⊎◌, ℕ, zero, suc, ◌+◌, ◌≤◌, List, [], ◌∷◌, ◌++◌, length, map, Option, Some, None, refl, sym, ap, subst, ◌∙◌, inl, inr, arith, slice_get, flat_map, View, internal, NodeMap, items_of, item_in, Represents, numbers_under, times_used, IsPlace, IsPlaceOf, IsEnd, IsWithin, times_listed}
 use Rattle.btree_laws.proofs.Trees.SubtreePlaces.{HasSubtreeAt, focused}
 use Rattle.btree_laws.proofs.Trees.Numbers.{used-one}
-use Rattle.btree_laws.specs.Lists.{times_listed}
 
 module _ {A : Type 0} where
   pub behind : (front xs : List A) (q : ℕ) (x : A) → slice_get xs q ≡ Some x → slice_get (front ++ xs) (length front + q) ≡ Some x

@@ -1,12 +1,5 @@
 -- The places in one node: along a leaf, and at the two ends of the root; and the index of a node in its parent.
-use Rattle.std.proofs.Common.{◌≡◌, ◌<◌, ◌≤◌, ◌∙◌, ◌+◌, [], ℕ, zero, suc, List, length, Option, Some, None, sym, ap, subst, arith, append-nil}
-use Rattle.std.specs.Prelude.{slice_get}
-use Rattle.btree_view.specs.View.{NodeMap, View, leaf, children_in, parent_of, size_of}
-use Rattle.btree_laws.specs.AddressLaws.{IsPlaced}
-use Rattle.btree_laws.specs.Focus.Focus.{IsUnsizedFocus}
-use Rattle.btree_laws.specs.Focus.Path.{Path, frame_id, frame_index, parent_above, top, under}
-use Rattle.btree_laws.specs.Focus.Subtree.{Subtree, count_at, id_of, items_under, view_at}
-use Rattle.btree_laws.specs.Focus.Path.{items_before}
+use Rattle.btree_laws.proofs.Common.{◌≡◌, ◌<◌, ◌≤◌, ◌∙◌, ◌+◌, [], ℕ, zero, suc, List, length, Option, Some, None, sym, ap, subst, arith, append-nil, slice_get, NodeMap, View, leaf, children_in, parent_of, size_of, IsPlaced, IsUnsizedFocus, Path, frame_id, frame_index, parent_above, top, under, Subtree, count_at, id_of, items_under, view_at, items_before}
 use Rattle.btree_laws.proofs.Paths.Frames.{top-view}
 use Rattle.btree_laws.proofs.Paths.FromRoot.{node-rooted}
 use Rattle.btree_laws.proofs.Paths.Parents.{index-here}

@@ -1,9 +1,5 @@
 -- Addresses in lists of positions, and functions that move them from one list to another and keep their places.
-use Rattle.std.proofs.Common.{◌≡◌, ◌<◌, ◌≤◌, ◌⊎◌, ◌++◌, ◌∷◌, [], ◌∙◌, ◌+◌, ℕ, suc, inl, inr, List, length, Option, Some, None, refl, sym, ap, subst, arith, append_assoc, append-nil}
-use Rattle.std.specs.List.{AllByRecursion}
-use Rattle.btree_item.specs.Address.{Address}
-use Rattle.btree_laws.specs.Lists.{total}
-use Rattle.btree_laws.specs.Focus.Positions.{IsExpected, KeepsPositions, IsAt, Position, mark, over, passed, address_at, positions_from, positions_to}
+use Rattle.btree_laws.proofs.Common.{◌≡◌, ◌<◌, ◌≤◌, ◌⊎◌, ◌++◌, ◌∷◌, [], ◌∙◌, ◌+◌, ℕ, suc, inl, inr, List, length, Option, Some, None, refl, sym, ap, subst, arith, append_assoc, append-nil, AllByRecursion, Address, total, IsExpected, KeepsPositions, IsAt, Position, mark, over, passed, address_at, positions_from, positions_to}
 
 -- lists of positions
 module _ {A : Type 0} where

@@ -1,12 +1,6 @@
 -- The places of the addresses of a node, by a focus at it.
-use Rattle.std.proofs.Common.{◌≡◌, ◌≤◌, ◌++◌, ◌∷◌, [], ◌∙◌, ◌+◌, ℕ, zero, suc, inl, inr, List, length, map, take, Option, Some, refl, sym, ap, subst, arith, append_assoc, length-append}
+use Rattle.btree_laws.proofs.Common.{◌≡◌, ◌≤◌, ◌++◌, ◌∷◌, [], ◌∙◌, ◌+◌, ℕ, zero, suc, inl, inr, List, length, map, take, Option, Some, refl, sym, ap, subst, arith, append_assoc, length-append, slice_get, NodeMap, View, item_in, items_of, IsEnd, IsPlace, IsPlaceOf, IsSubtreeAt, Subtree, count_at, id_of, items_under, later_items, view_at, Path, items_after, items_before, parent_above, IsUnsizedFocus, IsFocus}
 use Rattle.std.proofs.lemmas.List.{take_all}
-use Rattle.std.specs.Prelude.{slice_get}
-use Rattle.btree_view.specs.View.{NodeMap, View, item_in, items_of}
-use Rattle.btree_laws.specs.Place.{IsEnd, IsPlace, IsPlaceOf, IsSubtreeAt}
-use Rattle.btree_laws.specs.Focus.Subtree.{Subtree, count_at, id_of, items_under, later_items, view_at}
-use Rattle.btree_laws.specs.Focus.Path.{Path, items_after, items_before, parent_above}
-use Rattle.btree_laws.specs.Focus.Focus.{IsUnsizedFocus, IsFocus}
 use Rattle.btree_laws.proofs.Paths.Frames.{top-view}
 use Rattle.btree_laws.proofs.Places.HasPlace.{ahead, behind, low_or_end}
 use Rattle.btree_laws.proofs.Trees.Sizes.{view-size}

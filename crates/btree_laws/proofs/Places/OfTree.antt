@@ -1,17 +1,5 @@
 -- The positions of the tree under a root, by any focus, agree with the public definitions for addresses.
-use Rattle.std.proofs.Common.{◌≡◌, ◌≤◌, [], ◌∙◌, ◌+◌, ℕ, inl, inr, List, length, Option, Some, None, refl, sym, ap, subst, arith, append-nil, option_and_then}
-use Rattle.std.specs.Cmp.{IsTotalOrder}
-use Rattle.std.specs.FinMap.{len}
-use Rattle.std.specs.declared.cmp.Ordering.{Ordering}
-use Rattle.btree_item.specs.Address.{Address}
-use Rattle.btree_view.specs.View.{NodeMap, View, item_in, size_of}
-use Rattle.btree_laws.specs.Focus.TreePositions.{IsAddressed, HasPosition}
-use Rattle.btree_laws.specs.Place.{IsValid, IsWithin, item_at}
-use Rattle.btree_laws.specs.Focus.Subtree.{Holds, Subtree, id_of, view_at}
-use Rattle.btree_laws.specs.Focus.Positions.{IsExpected, IsAt, positions, all_positions}
-use Rattle.btree_laws.specs.Focus.Path.{Path, items_before, parent_above, top}
-use Rattle.btree_laws.specs.WellFormed.{IsNearlySized, IsOffByOne, IsRooted, IsSized, IsWellFormed}
-use Rattle.btree_laws.specs.Focus.Focus.{IsUnsizedFocus, IsFocus}
+use Rattle.btree_laws.proofs.Common.{◌≡◌, ◌≤◌, [], ◌∙◌, ◌+◌, ℕ, inl, inr, List, length, Option, Some, None, refl, sym, ap, subst, arith, append-nil, option_and_then, IsTotalOrder, len, Ordering, Address, NodeMap, View, item_in, size_of, IsAddressed, HasPosition, IsValid, IsWithin, item_at, Holds, Subtree, id_of, view_at, IsExpected, IsAt, positions, all_positions, Path, items_before, parent_above, top, IsNearlySized, IsOffByOne, IsRooted, IsSized, IsWellFormed, IsUnsizedFocus, IsFocus}
 use Rattle.btree_laws.proofs.Paths.Frames.{top-view}
 use Rattle.btree_laws.proofs.Places.NodePlaces.{items_upto}
 use Rattle.btree_laws.proofs.Places.OnePlace.{one_place, one_place-well}

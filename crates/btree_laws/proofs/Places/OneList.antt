@@ -1,10 +1,5 @@
 -- A tree has one list of positions, whatever the focus.
-use Rattle.std.proofs.Common.{◌≡◌, ◌++◌, ◌∷◌, [], ◌∙◌, ℕ, zero, suc, List, map, Option, Some, None, refl, sym, ap, subst, append_assoc, append-nil}
-use Rattle.std.specs.List.{AllByRecursion}
-use Rattle.btree_view.specs.View.{NodeMap, leaf}
-use Rattle.btree_laws.specs.Focus.Subtree.{Holds, Subtree, id_of, view_at}
-use Rattle.btree_laws.specs.Focus.Positions.{branch_key, branch_positions, address_before, mark, over, address_at, positions_from, positions, positions_after, positions_before, path_after, path_before, all_positions}
-use Rattle.btree_laws.specs.Focus.Path.{Path, Frame, HoldsAbove, fill, frame_index, parent_above, root_above, top, under}
+use Rattle.btree_laws.proofs.Common.{◌≡◌, ◌++◌, ◌∷◌, [], ◌∙◌, ℕ, zero, suc, List, map, Option, Some, None, refl, sym, ap, subst, append_assoc, append-nil, AllByRecursion, NodeMap, leaf, Holds, Subtree, id_of, view_at, branch_key, branch_positions, address_before, mark, over, address_at, positions_from, positions, positions_after, positions_before, path_after, path_before, all_positions, Path, Frame, HoldsAbove, fill, frame_index, parent_above, root_above, top, under}
 use Rattle.btree_laws.proofs.Paths.Frames.{fill-holds, fill-id}
 use Rattle.btree_laws.proofs.Places.Untouched.{positions-fill}
 

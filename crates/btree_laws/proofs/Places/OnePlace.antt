@@ -1,14 +1,7 @@
 -- An address of a well formed tree, or of one that is off by one at a node, has one place.
-use Rattle.std.proofs.Common.{◌≡◌, ◌⊎◌, ℕ, zero, suc, ◌<◌, ◌≤◌, List, [], ◌∷◌, length, Option, Some, None, refl, sym, ap, ◌∙◌, inl, inr, arith, length-append}
-use Rattle.std.specs.List.{flat_map}
-use Rattle.std.specs.Cmp.{IsTotalOrder}
-use Rattle.std.specs.declared.cmp.Ordering.{Ordering}
-use Rattle.std.proofs.lemmas.Bool.{cases_eq}
-use Rattle.std.proofs.lemmas.Bool.Decides.{nat_tests}
-use Rattle.btree_view.specs.View.{View, leaf, NodeMap, size_of}
-use Rattle.btree_laws.specs.Represents.{Represents}
-use Rattle.btree_laws.specs.WellFormed.{least_of, least_allowed, IsWellFormed, IsOffByOne}
-use Rattle.btree_laws.specs.Place.{IsSubtree, IsPlace}
+use Rattle.btree_laws.proofs.Common.{◌≡◌, ◌⊎◌, ℕ, zero, suc, ◌<◌, ◌≤◌, List, [], ◌∷◌, length, Option, Some, None, refl, sym, ap, ◌∙◌, inl, inr, arith, length-append, flat_map, IsTotalOrder, Ordering, cases_eq, nat_tests, View, leaf, NodeMap, size_of, Represents, least_of, IsWellFormed, IsOffByOne, IsPlace}
+use Rattle.btree_laws.specs.WellFormed.{least_allowed}
+use Rattle.btree_laws.specs.Place.{IsSubtree}
 use Rattle.btree_laws.proofs.Places.SamePlace.{same_subtree, same_place}
 
 none_or_some : {X : Type 0} (ys : List X) → (0 < length ys) ⊎ (ys ≡ [])

@@ -1,17 +1,8 @@
 -- If the keys of the list ascend strictly, an address has one place.
-use Rattle.std.proofs.Common.{◌≡◌, ◌⊎◌, ℕ, zero, suc, ◌+◌, ◌<◌, List, [], ◌∷◌, ◌++◌, length, Option, Some, None, refl, sym, ap, ◌∙◌, inl, inr, arith, length-append}
-use Rattle.std.specs.Prelude.{slice_get}
-use Rattle.std.specs.List.{AllByRecursion}
-use Rattle.std.specs.List.Sorted.{IsStrictlySortedBy}
+use Rattle.btree_laws.proofs.Common.{◌≡◌, ◌⊎◌, ℕ, zero, suc, ◌+◌, ◌<◌, List, [], ◌∷◌, ◌++◌, length, Option, Some, None, refl, sym, ap, ◌∙◌, inl, inr, arith, length-append, slice_get, AllByRecursion, IsStrictlySortedBy, IsTotalOrder, Ordering, Less, Equal, Greater, Ascends, View, NodeMap, items_of, item_in, Represents, IsSubtreeAt, IsPlace, IsPlaceOf, IsEnd}
 use Rattle.std.specs.Map.{keys_of}
-use Rattle.std.specs.Cmp.{IsTotalOrder}
-use Rattle.std.specs.declared.cmp.Ordering.{Ordering}
-use Rattle.std.specs.declared.cmp.Ordering.TheVariants.{Less, Equal, Greater}
 use Rattle.std.specs.Ordering.{ordering_reverse}
-use Rattle.btree_item.specs.Pairs.{Ascends}
-use Rattle.btree_view.specs.View.{View, NodeMap, items_of, item_in}
-use Rattle.btree_laws.specs.Represents.{Represents}
-use Rattle.btree_laws.specs.Place.{IsSubtree, IsSubtreeAt, IsPlace, IsPlaceOf, IsEnd}
+use Rattle.btree_laws.specs.Place.{IsSubtree}
 use Rattle.btree_laws.proofs.Trees.Represented.{represented-is}
 use Rattle.std.proofs.lemmas.Option.{slice_get_past}
 

@@ -1,9 +1,5 @@
 -- At the end of splits or underflow fixes the followed address is at its place, and any address may be followed.
-use Rattle.std.proofs.Common.{[], ℕ, List, Option}
-use Rattle.btree_item.specs.Address.{Address}
-use Rattle.btree_view.specs.View.{NodeMap}
-use Rattle.btree_laws.specs.Focus.Overflow.{IsRepaired}
-use Rattle.btree_laws.specs.Focus.TreePositions.{IsAddressed, HasPosition}
+use Rattle.btree_laws.proofs.Common.{[], ℕ, List, Option, Address, NodeMap, IsRepaired, IsAddressed, HasPosition}
 use Rattle.btree_laws.proofs.Places.OfTree.{whole-addressed, whole-on}
 
 module _ (A : Type 0) (node_at : NodeMap A) (root : ℕ) (xs : List A) (expected : Option A) (a : Address)

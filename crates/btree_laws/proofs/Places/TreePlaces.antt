@@ -1,15 +1,5 @@
 -- The addresses at positions are those of the nodes, each at its place.
-use Rattle.std.proofs.Common.{◌≡◌, ◌≤◌, ◌⊎◌, ◌++◌, ◌∷◌, [], ◌∙◌, ◌+◌, ℕ, zero, suc, inl, inr, List, length, map, take, Option, Some, None, refl, sym, ap, subst, arith, length-append}
-use Rattle.std.specs.Prelude.{slice_get}
-use Rattle.btree_item.specs.Address.{Address}
-use Rattle.btree_view.specs.View.{NodeMap, item_in, items_of, size_of}
-use Rattle.btree_laws.specs.Focus.Focus.{IsUnsizedFocus}
-use Rattle.btree_laws.specs.Focus.TreePositions.{IsAddressed}
-use Rattle.btree_laws.specs.Place.{IsPlace, IsWithin}
-use Rattle.btree_laws.specs.Lists.{total}
-use Rattle.btree_laws.specs.Focus.Subtree.{Subtree, count_at, id_of, items_under, later_items, view_at}
-use Rattle.btree_laws.specs.Focus.Positions.{IsExpected, IsAt, Position, branch_key, branch_positions, mark, over, passed, address_at, positions_from, positions_to, positions, positions_before, path_after, path_before, all_positions}
-use Rattle.btree_laws.specs.Focus.Path.{Path, Frame, at_branch, at_first, before_in, fill, items_before, parent_above, top, under}
+use Rattle.btree_laws.proofs.Common.{◌≡◌, ◌≤◌, ◌⊎◌, ◌++◌, ◌∷◌, [], ◌∙◌, ◌+◌, ℕ, zero, suc, inl, inr, List, length, map, take, Option, Some, None, refl, sym, ap, subst, arith, length-append, slice_get, Address, NodeMap, item_in, items_of, size_of, IsUnsizedFocus, IsAddressed, IsPlace, IsWithin, total, Subtree, count_at, id_of, items_under, later_items, view_at, IsExpected, IsAt, Position, branch_key, branch_positions, mark, over, passed, address_at, positions_from, positions_to, positions, positions_before, path_after, path_before, all_positions, Path, Frame, at_branch, at_first, before_in, fill, items_before, parent_above, top, under}
 use Rattle.btree_laws.proofs.Splits.KeptPositions.{node_positions-passed, positions-passed}
 use Rattle.btree_laws.proofs.Paths.Frames.{top-view}
 use Rattle.btree_laws.proofs.Places.NodePlaces.{items_upto, unsized-place, unsized-subtree}

@@ -1,15 +1,7 @@
 -- Addresses that a step does not change, around the hole of a frame and all the way up the path.
-use Rattle.std.proofs.Common.{◌≡◌, ◌≢◌, ◌<◌, ◌≤◌, ◌++◌, ◌∷◌, [], ◌∙◌, ◌+◌, ◌==◌, if◌then◌else◌, ℕ, zero, suc, true, false, List, length, Some, None, refl, sym, ap, arith, append_assoc}
-use Rattle.std.proofs.lemmas.Bool.Decides.{nat_tests}
-use Rattle.std.specs.FinMap.{len}
-use Rattle.std.specs.List.{AllByRecursion}
-use Rattle.std.specs.Prelude.{nat_lt}
-use Rattle.btree_item.specs.Address.{Address}
+use Rattle.btree_laws.proofs.Common.{◌≡◌, ◌≢◌, ◌<◌, ◌≤◌, ◌++◌, ◌∷◌, [], ◌∙◌, ◌+◌, ◌==◌, if◌then◌else◌, ℕ, zero, suc, true, false, List, length, Some, None, refl, sym, ap, arith, append_assoc, nat_tests, len, AllByRecursion, nat_lt, Address, one, total, Subtree, times_under, KeepsPositions, Position, branch_key, branch_positions, address_before, mark, over, passed, address_at, positions_from, positions_to, positions, positions_after, positions_before, path_after, path_before, Path, Frame, at_branch, at_first, fill, fill_two, frame_id, frame_index, times_above, times_in_siblings, top, under}
 use Rattle.btree_laws.specs.Moved.{select_by_order}
-use Rattle.btree_laws.specs.Lists.{one, total}
-use Rattle.btree_laws.specs.Focus.Subtree.{Subtree, times_under}
-use Rattle.btree_laws.specs.Focus.Positions.{KeepsPositions, Position, branch_key, branch_positions, branches_after, address_before, mark, over, passed, address_at, positions_from, positions_to, positions, positions_after, positions_before, path_after, path_before}
-use Rattle.btree_laws.specs.Focus.Path.{Path, Frame, at_branch, at_first, fill, fill_two, frame_id, frame_index, times_above, times_in_siblings, top, under}
+use Rattle.btree_laws.specs.Focus.Positions.{branches_after}
 use Rattle.btree_laws.proofs.Paths.Frames.{one-self, times_in-is}
 use Rattle.btree_laws.proofs.Places.Lists.{keep-append, keep-mark, keep-none, keep-over, keep-positions_from, keep-positions_to, passed-append, positions_from-append}
 

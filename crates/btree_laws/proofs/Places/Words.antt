@@ -1,16 +1,6 @@
 -- The positions of a tree by a focus agree with the public definitions for addresses and places. Edits by address will
 -- cite what nothing cites yet.
-use Rattle.std.proofs.Common.{◌≡◌, ◌<◌, ◌≤◌, ◌∷◌, [], ◌∙◌, ℕ, zero, suc, inl, inr, List, length, Option, Some, None, refl, arith, option_and_then}
-use Rattle.std.specs.Prelude.{slice_get}
-use Rattle.btree_item.specs.Address.{Address}
-use Rattle.btree_view.specs.View.{NodeMap, View, item_in, items_of}
-use Rattle.btree_laws.specs.Focus.TreePositions.{IsAddressed}
-use Rattle.btree_laws.specs.Place.{IsPlace, IsValid, IsWithin}
-use Rattle.btree_laws.specs.Focus.Subtree.{Subtree}
-use Rattle.btree_laws.specs.Focus.Positions.{IsExpected, IsAt, all_positions}
-use Rattle.btree_laws.specs.Focus.Path.{Path}
-use Rattle.btree_laws.specs.WellFormed.{times_used}
-use Rattle.btree_laws.specs.Focus.Focus.{IsFocus}
+use Rattle.btree_laws.proofs.Common.{◌≡◌, ◌<◌, ◌≤◌, ◌∷◌, [], ◌∙◌, ℕ, zero, suc, inl, inr, List, length, Option, Some, None, refl, arith, option_and_then, slice_get, Address, NodeMap, View, item_in, items_of, IsAddressed, IsPlace, IsValid, IsWithin, Subtree, IsExpected, IsAt, all_positions, Path, times_used, IsFocus}
 use Rattle.btree_laws.proofs.Places.OfTree.{whole-addressed, whole-on}
 use Rattle.btree_laws.proofs.Trees.Stores.{within-used}
 

@@ -1,23 +1,8 @@
 -- An item removed from an internal node of a well formed tree: the item before it, which is in a leaf, is removed there
 -- and replaces it. The tree is off by one at that leaf. Removal cites it.
-use Rattle.std.proofs.Common.{◌≡◌, ◌≢◌, ◌<◌, ◌≤◌, ◌⊎◌, ◌∙◌, ◌+◌, ℕ, suc, inl, inr, List, set, Option, Some, sym, ap, subst, arith}
-use Rattle.std.proofs.lemmas.Option.{slice_get_within}
-use Rattle.std.specs.Cmp.{IsTotalOrder}
-use Rattle.std.specs.List.{remove}
-use Rattle.std.specs.Prelude.{slice_get}
-use Rattle.std.specs.declared.cmp.Ordering.{Ordering}
-use Rattle.btree_item.specs.Pairs.{Ascends}
-use Rattle.btree_item.specs.Address.{Address}
-use Rattle.btree_view.specs.View.{NodeMap, View, item_in, items_of, leaf}
-use Rattle.btree_laws.specs.Moved.{in_shortened, moved_by_take}
-use Rattle.btree_laws.specs.Focus.TreePositions.{HasPosition}
-use Rattle.btree_laws.specs.Place.{IsEnd, IsPlace, IsPlaceAfter, IsPlaceOf}
-use Rattle.btree_laws.specs.Strain.{debt_of}
-use Rattle.btree_laws.specs.Represents.{numbers_under}
-use Rattle.btree_laws.specs.Step.{HasItems, WritesNode}
-use Rattle.btree_laws.specs.Strain.{strain_under}
-use Rattle.btree_laws.specs.Focus.Positions.{address_at}
-use Rattle.btree_laws.specs.WellFormed.{IsNearlySized, IsOffByOne, IsWellFormed}
+use Rattle.btree_laws.proofs.Common.{◌≡◌, ◌≢◌, ◌<◌, ◌≤◌, ◌⊎◌, ◌∙◌, ◌+◌, ℕ, suc, inl, inr, List, set, Option, Some, sym, ap, subst, arith, slice_get_within, IsTotalOrder, remove, slice_get, Ordering, Ascends, Address, NodeMap, View, item_in, items_of, leaf, moved_by_take, HasPosition, IsEnd, IsPlace, IsPlaceOf, debt_of, numbers_under, HasItems, WritesNode, strain_under, address_at, IsNearlySized, IsOffByOne, IsWellFormed}
+use Rattle.btree_laws.specs.Moved.{in_shortened}
+use Rattle.btree_laws.specs.Place.{IsPlaceAfter}
 use Rattle.btree_laws.proofs.Places.Words.{item-within}
 use Rattle.btree_laws.proofs.Places.Untouched.{if-other}
 use Rattle.btree_laws.proofs.Places.OfTree.{positions-addressed, well-on}

@@ -1,17 +1,6 @@
 -- An item removed from a leaf: the tree, its strain, and the new addresses.
-use Rattle.std.proofs.Common.{◌≡◌, ◌<◌, ◌≤◌, ◌++◌, ◌∷◌, [], ◌∙◌, ◌+◌, ◌-◌, ℕ, suc, inl, inr, List, length, Option, Some, None, refl, sym, ap, subst, arith, append_assoc, length-append}
-use Rattle.std.specs.List.{remove}
-use Rattle.btree_item.specs.Address.{Address}
-use Rattle.btree_view.specs.View.{NodeMap, leaf}
-use Rattle.btree_laws.specs.Moved.{in_shortened, moved_by_take}
-use Rattle.btree_laws.specs.Lists.{one}
-use Rattle.btree_laws.specs.Focus.Underflow.{debt}
-use Rattle.btree_laws.specs.Step.{WritesNode}
-use Rattle.btree_laws.specs.Focus.Strain.{own_strain, strain_of}
-use Rattle.btree_laws.specs.Focus.Positions.{KeepsPositions, IsAt, Position, mark, over, passed, address_at, positions_from, path_after, all_positions}
-use Rattle.btree_laws.specs.Focus.Path.{Path, items_after, items_before, parent_above, times_above}
-use Rattle.btree_laws.specs.WellFormed.{times_used}
-use Rattle.btree_laws.specs.Focus.Focus.{IsFocus}
+use Rattle.btree_laws.proofs.Common.{◌≡◌, ◌<◌, ◌≤◌, ◌++◌, ◌∷◌, [], ◌∙◌, ◌+◌, ◌-◌, ℕ, suc, inl, inr, List, length, Option, Some, None, refl, sym, ap, subst, arith, append_assoc, length-append, remove, Address, NodeMap, leaf, moved_by_take, one, debt, WritesNode, own_strain, strain_of, KeepsPositions, IsAt, Position, mark, over, passed, address_at, positions_from, path_after, all_positions, Path, items_after, items_before, parent_above, times_above, times_used, IsFocus}
+use Rattle.btree_laws.specs.Moved.{in_shortened}
 use Rattle.btree_laws.proofs.Paths.Frames.{above-same, one-zero}
 use Rattle.btree_laws.proofs.Underflow.Writes.{remove-seam}
 use Rattle.btree_laws.proofs.Places.Untouched.{by-more, each-nothing, if-other, if-same, path-after-same}

@@ -1,28 +1,6 @@
 -- An item removed from a leaf of a well formed tree, in the public terms: the tree is off by one there. Removal will
 -- cite what nothing cites yet.
-use Rattle.std.proofs.Common.{◌≡◌, ◌<◌, ◌≤◌, ◌++◌, ◌∷◌, [], ◌∙◌, ◌+◌, ◌==◌, if◌then◌else◌, ℕ, zero, suc, List, length, Option, Some, None, refl, sym, ap, subst, arith, append_assoc, length-append}
-use Rattle.std.specs.Cmp.{IsTotalOrder}
-use Rattle.std.specs.List.{AllByRecursion, remove}
-use Rattle.std.specs.Prelude.{slice_get}
-use Rattle.std.specs.declared.cmp.Ordering.{Ordering}
-use Rattle.std.specs.declared.cmp.Ordering.TheVariants.{Less}
-use Rattle.btree_item.specs.Pairs.{Ascends}
-use Rattle.btree_item.specs.Address.{Address}
-use Rattle.btree_view.specs.View.{NodeMap, leaf}
-use Rattle.btree_laws.specs.Moved.{moved_by_take}
-use Rattle.btree_laws.specs.Focus.Node.{IsExemptNode}
-use Rattle.btree_laws.specs.Focus.TreePositions.{HasPosition}
-use Rattle.btree_laws.specs.Place.{IsPlace}
-use Rattle.btree_laws.specs.Focus.Subtree.{IsFilled, Subtree, count_at, id_of}
-use Rattle.btree_laws.specs.Focus.Underflow.{debt}
-use Rattle.btree_laws.specs.Strain.{debt_of}
-use Rattle.btree_laws.specs.Represents.{numbers_under}
-use Rattle.btree_laws.specs.Step.{WritesNode}
-use Rattle.btree_laws.specs.Strain.{strain_under}
-use Rattle.btree_laws.specs.Focus.Positions.{IsAt, address_at, all_positions}
-use Rattle.btree_laws.specs.Focus.Path.{Path, items_after, items_before, least_at, parent_above, top, under}
-use Rattle.btree_laws.specs.WellFormed.{IsNearlySized, IsOffByOne, IsRooted, IsSized, IsWellFormed}
-use Rattle.btree_laws.specs.Focus.Focus.{IsFocus}
+use Rattle.btree_laws.proofs.Common.{◌≡◌, ◌<◌, ◌≤◌, ◌++◌, ◌∷◌, [], ◌∙◌, ◌+◌, ◌==◌, if◌then◌else◌, ℕ, zero, suc, List, length, Option, Some, None, refl, sym, ap, subst, arith, append_assoc, length-append, IsTotalOrder, AllByRecursion, remove, slice_get, Ordering, Less, Ascends, Address, NodeMap, leaf, moved_by_take, IsExemptNode, HasPosition, IsPlace, IsFilled, Subtree, count_at, id_of, debt, debt_of, numbers_under, WritesNode, strain_under, IsAt, address_at, all_positions, Path, items_after, items_before, least_at, parent_above, top, under, IsNearlySized, IsOffByOne, IsRooted, IsSized, IsWellFormed, IsFocus}
 use Rattle.btree_laws.proofs.LookUp.Descent.{get-after}
 use Rattle.btree_laws.proofs.Paths.Frames.{one-self}
 use Rattle.btree_laws.proofs.Underflow.Writes.{remove-seam}

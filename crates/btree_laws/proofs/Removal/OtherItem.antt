@@ -1,14 +1,6 @@
 -- An item of a node replaced by another: its subtree, the addresses in it and its strain.
-use Rattle.std.proofs.Common.{◌≡◌, ◌≢◌, ◌<◌, ◌++◌, ◌∷◌, [], ◌∙◌, ◌+◌, ℕ, zero, suc, inl, inr, List, length, map, set, take, Option, Some, refl, sym, ap, subst, arith, append_assoc, length-append}
+use Rattle.btree_laws.proofs.Common.{◌≡◌, ◌≢◌, ◌<◌, ◌++◌, ◌∷◌, [], ◌∙◌, ◌+◌, ℕ, zero, suc, inl, inr, List, length, map, set, take, Option, Some, refl, sym, ap, subst, arith, append_assoc, length-append, flat_map-append, length-map, slice_get, Address, NodeMap, Holds, Subtree, count_at, id_of, items_under, later_items, times_under, view_at, strain, strain_below, IsAt, Position, branch_key, branch_positions, address_at, positions_from, positions}
 use Rattle.std.proofs.Math.Seq.{take-append_seam}
-use Rattle.std.proofs.lemmas.Grind.{flat_map-append}
-use Rattle.std.proofs.lemmas.List.{length-map}
-use Rattle.std.specs.Prelude.{slice_get}
-use Rattle.btree_item.specs.Address.{Address}
-use Rattle.btree_view.specs.View.{NodeMap}
-use Rattle.btree_laws.specs.Focus.Subtree.{Holds, Subtree, count_at, id_of, items_under, later_items, times_under, view_at}
-use Rattle.btree_laws.specs.Focus.Strain.{strain, strain_below}
-use Rattle.btree_laws.specs.Focus.Positions.{IsAt, Position, branch_key, branch_positions, address_at, positions_from, positions}
 use Rattle.btree_laws.proofs.LookUp.Descent.{get-after}
 use Rattle.btree_laws.proofs.Paths.Frames.{AllByRecursion-append, AllByRecursion-left, AllByRecursion-right, eachs-same, holds-same, total-append}
 use Rattle.btree_laws.proofs.Underflow.Writes.{set-seam}

@@ -1,20 +1,6 @@
 -- An item replaced by another in a well formed tree and in one that is off by one at a node, in the public terms.
-use Rattle.std.proofs.Common.{◌≡◌, ◌≢◌, ◌<◌, ◌++◌, ◌∷◌, [], ◌∙◌, ℕ, zero, suc, inl, inr, List, length, set, Option, Some, IsSome, refl, sym, ap, subst, arith}
-use Rattle.std.specs.Cmp.{IsTotalOrder}
+use Rattle.btree_laws.proofs.Common.{◌≡◌, ◌≢◌, ◌<◌, ◌++◌, ◌∷◌, [], ◌∙◌, ℕ, zero, suc, inl, inr, List, length, set, Option, Some, IsSome, refl, sym, ap, subst, arith, IsTotalOrder, remove, slice_get, Ordering, Ascends, Address, NodeMap, View, items_of, HasPosition, IsPlace, numbers_under, HasItems, WritesNode, strain_under, address_at, IsNearlySized, IsOffByOne, IsSized, IsWellFormed}
 use Rattle.std.proofs.lemmas.List.{length-set}
-use Rattle.std.specs.List.{remove}
-use Rattle.std.specs.Prelude.{slice_get}
-use Rattle.std.specs.declared.cmp.Ordering.{Ordering}
-use Rattle.btree_item.specs.Pairs.{Ascends}
-use Rattle.btree_item.specs.Address.{Address}
-use Rattle.btree_view.specs.View.{NodeMap, View, items_of}
-use Rattle.btree_laws.specs.Focus.TreePositions.{HasPosition}
-use Rattle.btree_laws.specs.Place.{IsPlace}
-use Rattle.btree_laws.specs.Represents.{numbers_under}
-use Rattle.btree_laws.specs.Step.{HasItems, WritesNode}
-use Rattle.btree_laws.specs.Strain.{strain_under}
-use Rattle.btree_laws.specs.Focus.Positions.{address_at}
-use Rattle.btree_laws.specs.WellFormed.{IsNearlySized, IsOffByOne, IsSized, IsWellFormed}
 use Rattle.btree_laws.proofs.Underflow.Writes.{set-seam}
 use Rattle.btree_laws.proofs.Trees.Numbers.{same-or}
 use Rattle.btree_laws.proofs.Places.OnePlace.{one_place, one_place-well}

@@ -1,22 +1,6 @@
 -- An item of a node replaced by another, in any tree: the list, the sizes, the strain and every other address.
-use Rattle.std.proofs.Common.{◌≡◌, ◌≢◌, ◌≤◌, ◌++◌, ◌∷◌, [], ◌∙◌, ◌+◌, ℕ, inl, inr, List, length, set, Option, Some, refl, sym, ap, subst, arith, append_assoc, length-append}
+use Rattle.btree_laws.proofs.Common.{◌≡◌, ◌≢◌, ◌≤◌, ◌++◌, ◌∷◌, [], ◌∙◌, ◌+◌, ℕ, inl, inr, List, length, set, Option, Some, refl, sym, ap, subst, arith, append_assoc, length-append, slice_get, Address, is_internal, NodeMap, View, children_of, internal, items_of, leaf, most_of, size_of, IsUnsizedFocus, HasPosition, IsPlace, one, Subtree, count_at, id_of, items_under, times_under, view_at, numbers_under, HasItems, WritesNode, own_strain, strain_under, IsAt, address_at, positions, path_after, path_before, all_positions, Path, HoldsAbove, items_after, items_before, parent_above, root_above, times_above, IsRooted, times_used, same_Some}
 use Rattle.std.proofs.lemmas.List.{length-set}
-use Rattle.std.specs.Prelude.{slice_get}
-use Rattle.btree_item.specs.Address.{Address}
-use Rattle.btree_view.specs.Edits.{is_internal}
-use Rattle.btree_view.specs.View.{NodeMap, View, children_of, internal, items_of, leaf, most_of, size_of}
-use Rattle.btree_laws.specs.Focus.Focus.{IsUnsizedFocus}
-use Rattle.btree_laws.specs.Focus.TreePositions.{HasPosition}
-use Rattle.btree_laws.specs.Place.{IsPlace}
-use Rattle.btree_laws.specs.Lists.{one}
-use Rattle.btree_laws.specs.Focus.Subtree.{Subtree, count_at, id_of, items_under, times_under, view_at}
-use Rattle.btree_laws.specs.Represents.{numbers_under}
-use Rattle.btree_laws.specs.Step.{HasItems, WritesNode}
-use Rattle.btree_laws.specs.Focus.Strain.{own_strain}
-use Rattle.btree_laws.specs.Strain.{strain_under}
-use Rattle.btree_laws.specs.Focus.Positions.{IsAt, address_at, positions, path_after, path_before, all_positions}
-use Rattle.btree_laws.specs.Focus.Path.{Path, HoldsAbove, items_after, items_before, parent_above, root_above, times_above}
-use Rattle.btree_laws.specs.WellFormed.{IsRooted, times_used}
 use Rattle.btree_laws.proofs.Splits.KeptPositions.{positions-passed}
 use Rattle.btree_laws.proofs.Paths.Frames.{above-same, one-zero, top-view}
 use Rattle.btree_laws.proofs.Underflow.Writes.{remade-view}
@@ -31,7 +15,6 @@ use Rattle.btree_laws.proofs.Removal.OtherItem.{Swapped, swapped}
 use Rattle.btree_laws.proofs.Places.TreePlaces.{item-in}
 use Rattle.btree_laws.proofs.Places.Lists.{in-cases, in-left, in-right}
 use Rattle.btree_laws.proofs.Underflow.Items.{children_at-is, items_at, items_at-is}
-use Rattle.std.proofs.lemmas.Option.{same_Some}
 
 kind-most : {A : Type 0} (v w : View A) → is_internal v ≡ is_internal w → most_of v ≡ most_of w
 kind-most (leaf p xs) (leaf q ys) e = refl

@@ -1,11 +1,5 @@
 -- Numbers claimed before a change: the last of them, and a tree in whose store they are claimed.
-use Rattle.std.proofs.Common.{◌≡◌, ◌<◌, ◌++◌, ◌∷◌, [], ◌∙◌, ◌+◌, ℕ, suc, List, length, ap, arith, length-append}
-use Rattle.btree_view.specs.View.{NodeMap}
-use Rattle.btree_laws.specs.Lists.{one, times_listed}
-use Rattle.btree_laws.specs.Focus.Subtree.{Subtree, id_of, times_under}
-use Rattle.btree_laws.specs.Step.{Claims}
-use Rattle.btree_laws.specs.Focus.Path.{Path, parent_above, times_above}
-use Rattle.btree_laws.specs.Focus.Focus.{IsFocus}
+use Rattle.btree_laws.proofs.Common.{◌≡◌, ◌<◌, ◌++◌, ◌∷◌, [], ◌∙◌, ◌+◌, ℕ, suc, List, length, ap, arith, length-append, NodeMap, one, times_listed, Subtree, id_of, times_under, Claims, Path, parent_above, times_above, IsFocus}
 use Rattle.btree_laws.proofs.Paths.Frames.{above-same, holds-same}
 use Rattle.btree_laws.proofs.Trees.Numbers.{listed-append, used-low}
 

@@ -1,8 +1,6 @@
 -- The positions of a node that is cut in two.
-use Rattle.std.proofs.Common.{◌≡◌, ◌<◌, ◌≤◌, ◌++◌, ◌∷◌, [], ◌∙◌, ◌+◌, ℕ, suc, inl, List, length, Option, Some, None, refl, sym, ap, subst, arith, append_assoc, append-nil}
-use Rattle.std.specs.List.{AllByRecursion}
-use Rattle.btree_item.specs.Address.{Address}
-use Rattle.btree_laws.specs.Focus.Positions.{IsExpected, KeepsPositions, IsAt, Position, address_before, mark, over, node_positions, address_at, positions_from, positions_to}
+use Rattle.btree_laws.proofs.Common.{◌≡◌, ◌<◌, ◌≤◌, ◌++◌, ◌∷◌, [], ◌∙◌, ◌+◌, ℕ, suc, inl, List, length, Option, Some, None, refl, sym, ap, subst, arith, append_assoc, append-nil, AllByRecursion, Address, IsExpected, KeepsPositions, IsAt, Position, address_before, mark, over, address_at, positions_from, positions_to}
+use Rattle.btree_laws.specs.Focus.Positions.{node_positions}
 use Rattle.btree_laws.proofs.Places.Lists.{keep-append, keep-mark, keep-more, keep-over, keep-positions_from, keep-positions_to, positions_from-append}
 
 -- a node in two parts A and B, by rows: an entry is an item with the child after it, or an item alone

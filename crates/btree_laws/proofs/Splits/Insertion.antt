@@ -1,29 +1,9 @@
 -- An item inserted into a leaf.
-use Rattle.std.proofs.Common.{◌≡◌, ◌≢◌, ◌<◌, ◌≤◌, ◌++◌, ◌∷◌, [], ◌∙◌, ◌+◌, ◌-◌, ℕ, zero, suc, inl, inr, List, length, Option, Some, None, refl, sym, ap, subst, arith}
+use Rattle.btree_laws.proofs.Common.{◌≡◌, ◌≢◌, ◌<◌, ◌≤◌, ◌++◌, ◌∷◌, [], ◌∙◌, ◌+◌, ◌-◌, ℕ, zero, suc, inl, inr, List, length, Option, Some, None, refl, sym, ap, subst, arith, IsTotalOrder, insert, Ordering, Address, with_item, NodeMap, leaf, MayOverflowAt, IsRepaired, split_need, path_need_from, path_need, IsNode, IsPlace, one, IsFilled, Subtree, count_at, id_of, numbers_under, Claims, WritesNode, strain_of, strain_under, address_at, Path, depth, items_after, items_before, least_at, parent_above, times_above, IsRooted, IsSized, IsWellFormed, times_used, IsFocus}
 use Rattle.std.proofs.lemmas.List.Edits.{insert-append_left, insert-append_right, length-insert}
-use Rattle.std.specs.Cmp.{IsTotalOrder}
-use Rattle.std.specs.List.{insert}
-use Rattle.std.specs.declared.cmp.Ordering.{Ordering}
 use Rattle.btree_item.proofs.PairEdits.{Ascends-insert, Ascends-one, slice_get-insert}
 use Rattle.btree_item.specs.Pairs.{KeyFits}
-use Rattle.btree_item.specs.Address.{Address}
-use Rattle.btree_view.specs.Edits.{with_item}
-use Rattle.btree_view.specs.View.{NodeMap, leaf}
-use Rattle.btree_laws.specs.Focus.Overflow.{MayOverflowAt, IsRepaired}
-use Rattle.btree_laws.specs.Need.{split_need, need}
-use Rattle.btree_laws.specs.Focus.Need.{path_need_from, path_need}
-use Rattle.btree_laws.specs.Focus.Node.{IsNode}
-use Rattle.btree_laws.specs.Place.{IsPlace}
-use Rattle.btree_laws.specs.Lists.{one}
-use Rattle.btree_laws.specs.Focus.Subtree.{IsFilled, Subtree, count_at, id_of}
-use Rattle.btree_laws.specs.Represents.{numbers_under}
-use Rattle.btree_laws.specs.Step.{Claims, WritesNode}
-use Rattle.btree_laws.specs.Focus.Strain.{strain_of}
-use Rattle.btree_laws.specs.Strain.{strain_under}
-use Rattle.btree_laws.specs.Focus.Positions.{address_at}
-use Rattle.btree_laws.specs.Focus.Path.{Path, depth, items_after, items_before, least_at, parent_above, times_above}
-use Rattle.btree_laws.specs.WellFormed.{IsRooted, IsSized, IsWellFormed, times_used}
-use Rattle.btree_laws.specs.Focus.Focus.{IsFocus}
+use Rattle.btree_laws.specs.Need.{need}
 use Rattle.btree_laws.proofs.Places.Words.{AddressIn, address-in}
 use Rattle.btree_laws.proofs.Splits.Claims.{claimed}
 use Rattle.btree_laws.proofs.Paths.Frames.{above-same, one-zero}

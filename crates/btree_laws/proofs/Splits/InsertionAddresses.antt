@@ -1,8 +1,5 @@
 -- The positions in a leaf up to an offset: which addresses are before it, and how many items are.
-use Rattle.std.proofs.Common.{◌≡◌, ◌<◌, ◌++◌, ◌∷◌, [], ◌∙◌, ◌+◌, ℕ, inl, inr, List, length, Option, None, sym, ap, subst, arith, append_assoc}
-use Rattle.btree_item.specs.Address.{Address}
-use Rattle.btree_laws.specs.Focus.Positions.{IsAt, Position, address_before, mark, passed, positions_from, positions_to, path_after, path_before, all_positions}
-use Rattle.btree_laws.specs.Focus.Path.{Path, items_before}
+use Rattle.btree_laws.proofs.Common.{◌≡◌, ◌<◌, ◌++◌, ◌∷◌, [], ◌∙◌, ◌+◌, ℕ, inl, inr, List, length, Option, None, sym, ap, subst, arith, append_assoc, Address, IsAt, Position, address_before, mark, passed, positions_from, positions_to, path_after, path_before, all_positions, Path, items_before}
 use Rattle.btree_laws.proofs.Splits.KeptPositions.{singles}
 use Rattle.btree_laws.proofs.Places.TreePlaces.{path-passed}
 use Rattle.btree_laws.proofs.Places.Lists.{in-cases, passed-append, passed-positions_to, positions_from-append}

@@ -1,12 +1,5 @@
 -- A split keeps the place of each address of the tree.
-use Rattle.std.proofs.Common.{◌≡◌, ◌≢◌, ◌<◌, ◌≤◌, ◌++◌, ◌∷◌, [], ◌∙◌, ◌+◌, ℕ, zero, suc, List, length, Some, None, refl, sym, ap, subst, arith, append_assoc, append-nil, length-append}
-use Rattle.std.proofs.lemmas.Grind.{flat_map-append}
-use Rattle.btree_item.specs.Address.{Address}
-use Rattle.btree_laws.specs.Moved.{moved_by_split}
-use Rattle.btree_laws.specs.Lists.{one, total}
-use Rattle.btree_laws.specs.Focus.Subtree.{Subtree, count_at, id_of, items_under, later_items, times_under}
-use Rattle.btree_laws.specs.Focus.Positions.{KeepsPositions, Position, branch_key, branch_positions, address_before, mark, over, passed, address_at, positions_from, positions, positions_after, positions_before, path_after, path_before, all_positions}
-use Rattle.btree_laws.specs.Focus.Path.{Path, Frame, fill, fill_two, frame_id, frame_index, times_above, times_in_siblings, top}
+use Rattle.btree_laws.proofs.Common.{◌≡◌, ◌≢◌, ◌<◌, ◌≤◌, ◌++◌, ◌∷◌, [], ◌∙◌, ◌+◌, ℕ, zero, suc, List, length, Some, None, refl, sym, ap, subst, arith, append_assoc, append-nil, length-append, flat_map-append, Address, moved_by_split, one, total, Subtree, count_at, id_of, items_under, later_items, times_under, KeepsPositions, Position, branch_key, branch_positions, address_before, mark, over, passed, address_at, positions_from, positions, positions_after, positions_before, path_after, path_before, all_positions, Path, Frame, fill, fill_two, frame_id, frame_index, times_above, times_in_siblings, top}
 use Rattle.btree_laws.proofs.Paths.Frames.{one-zero}
 use Rattle.btree_laws.proofs.Splits.NodeAddresses.{Apart, ids-apart, split-local, split-parent, split-stays}
 use Rattle.btree_laws.proofs.Places.Untouched.{if-less, if-not-less, pair_positions, step-keeps, positions-fill, positions-fill_two}

@@ -1,20 +1,13 @@
 -- The nodes needed by the splits that begin at a node with an item too many, counted from it upward.
-use Rattle.std.proofs.Common.{◌≡◌, ◌<◌, ◌≤◌, [], ◌∙◌, ◌+◌, ℕ, zero, suc, List, Some, None, refl, sym, ap, subst, arith}
-use Rattle.btree_view.specs.View.{NodeMap, View, most_of, parent_of, size_of}
-use Rattle.btree_laws.specs.Focus.Focus.{IsUnsizedFocus}
-use Rattle.btree_laws.specs.Focus.Need.{IsCountingUpward, path_need_from, path_need}
-use Rattle.btree_laws.specs.Need.{split_need, levels_above, need_of_split}
-use Rattle.btree_laws.specs.Focus.Node.{IsNode}
-use Rattle.btree_laws.specs.Focus.Subtree.{Holds, Subtree, count_at, id_of, most_at, view_at}
-use Rattle.btree_laws.specs.Focus.Path.{Path, HoldsAbove, depth, fill, frame_count, frame_id, frame_view, parent_above, top, under}
-use Rattle.btree_laws.specs.WellFormed.{times_used}
+use Rattle.btree_laws.proofs.Common.{◌≡◌, ◌<◌, ◌≤◌, [], ◌∙◌, ◌+◌, ℕ, zero, suc, List, Some, None, refl, sym, ap, subst, arith, NodeMap, View, most_of, parent_of, size_of, IsUnsizedFocus, path_need_from, path_need, split_need, levels_above, IsNode, Holds, Subtree, count_at, id_of, most_at, view_at, Path, HoldsAbove, depth, fill, frame_count, frame_id, frame_view, parent_above, top, under, times_used, same_Some}
+use Rattle.btree_laws.specs.Focus.Need.{IsCountingUpward}
+use Rattle.btree_laws.specs.Need.{need_of_split}
 use Rattle.btree_laws.proofs.Paths.Parents.{levels-above-is}
 use Rattle.btree_laws.proofs.Paths.Frames.{fill-count, fill-id, top-view}
 use Rattle.btree_laws.proofs.Paths.Used.{less-no, less-yes}
 use Rattle.btree_laws.proofs.Trees.Numbers.{used-one}
 use Rattle.btree_laws.proofs.Trees.Sizes.{frame-most, frame-parent, frame-size, view-most, view-parent, view-size}
 use Rattle.btree_laws.proofs.Paths.UnsizedFocus.{unsized-up}
-use Rattle.std.proofs.lemmas.Option.{same_Some}
 
 module _ (A : Type 0) where
   split_need-path_need : (node_at : NodeMap A) (h n : ℕ) (c : Path A h) (hole : ℕ) → depth c ≤ n → HoldsAbove node_at c hole

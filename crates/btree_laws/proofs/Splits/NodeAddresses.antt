@@ -1,10 +1,6 @@
 -- The positions of a node that is split, and those below it.
-use Rattle.std.proofs.Common.{◌≡◌, ◌≢◌, ◌<◌, ◌≤◌, ◌++◌, ◌∷◌, [], ◌∙◌, ◌+◌, ◌-◌, ◌==◌, if◌then◌else◌, ℕ, zero, suc, inl, List, length, Option, Some, None, refl, sym, ap, subst, arith}
-use Rattle.btree_item.specs.Address.{Address}
-use Rattle.btree_laws.specs.Moved.{node_after_split, moved_by_split, parent_after_split}
-use Rattle.btree_laws.specs.Lists.{one}
-use Rattle.btree_laws.specs.Focus.Subtree.{Subtree, count_at, id_of, times_under}
-use Rattle.btree_laws.specs.Focus.Positions.{KeepsPositions, IsAt, Position, branch_key, branch_positions, address_before, mark, over, address_at, positions}
+use Rattle.btree_laws.proofs.Common.{◌≡◌, ◌≢◌, ◌<◌, ◌≤◌, ◌++◌, ◌∷◌, [], ◌∙◌, ◌+◌, ◌-◌, ◌==◌, if◌then◌else◌, ℕ, zero, suc, inl, List, length, Option, Some, None, refl, sym, ap, subst, arith, Address, moved_by_split, one, Subtree, count_at, id_of, times_under, KeepsPositions, IsAt, Position, branch_key, branch_positions, address_before, mark, over, address_at, positions}
+use Rattle.btree_laws.specs.Moved.{node_after_split, parent_after_split}
 use Rattle.btree_laws.proofs.Paths.Frames.{one-self, one-zero}
 use Rattle.btree_laws.proofs.Places.Untouched.{by-equal, by-less, by-more, each-nothing, if-other, if-same, positions-same, entries-same}
 use Rattle.btree_laws.proofs.Splits.CutPositions.{node_positions-split}

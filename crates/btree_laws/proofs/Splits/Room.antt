@@ -1,18 +1,8 @@
 -- The nodes of a tree with those that an insertion needs: at most a third of the items that there are then, rounded up.
 -- An insertion that is refused has no tree, so this is a law of the old tree alone: upward from the node, each level
 -- adds its siblings' nodes and the node that its split needs.
-use Rattle.std.proofs.Common.{◌≡◌, ◌<◌, ◌≤◌, ◌++◌, ◌∷◌, [], ◌∙◌, ◌+◌, ◌*◌, ℕ, zero, suc, inl, inr, List, length, None, refl, ap, arith, length-append, append-nil}
+use Rattle.btree_laws.proofs.Common.{◌≡◌, ◌<◌, ◌≤◌, ◌++◌, ◌∷◌, [], ◌∙◌, ◌+◌, ◌*◌, ℕ, zero, suc, inl, inr, List, length, None, refl, ap, arith, length-append, append-nil, NodeMap, total, times_listed, numbers_under, split_need, IsUnsizedFocus, path_need, IsNode, Path, AreFilled, Frame, SiblingsFilled, after_in, at_branch, at_first, before_in, depth, fill, frame_count, least_at, top, under, IsFilledBelow, Subtree, count_at, id_of, items_under, later_items, most_at, times_used}
 use Rattle.std.proofs.lemmas.Bool.{cases_lt}
-use Rattle.btree_view.specs.View.{NodeMap}
-use Rattle.btree_laws.specs.Lists.{total, times_listed}
-use Rattle.btree_laws.specs.Represents.{numbers_under}
-use Rattle.btree_laws.specs.Need.{split_need}
-use Rattle.btree_laws.specs.Focus.Focus.{IsUnsizedFocus}
-use Rattle.btree_laws.specs.Focus.Need.{path_need}
-use Rattle.btree_laws.specs.Focus.Node.{IsNode}
-use Rattle.btree_laws.specs.Focus.Path.{Path, AreFilled, Frame, SiblingsFilled, after_in, at_branch, at_first, before_in, depth, fill, frame_count, least_at, top, under}
-use Rattle.btree_laws.specs.Focus.Subtree.{IsFilledBelow, Subtree, count_at, id_of, items_under, later_items, most_at}
-use Rattle.btree_laws.specs.WellFormed.{times_used}
 use Rattle.btree_laws.proofs.Paths.Frames.{fill-items, total-append}
 use Rattle.btree_laws.proofs.Paths.UnsizedFocus.{focus-unsized, unsized-up}
 use Rattle.btree_laws.proofs.Paths.Used.{less-no, less-yes}

@@ -1,11 +1,5 @@
 -- The positions of a tree after a split: at the parent, or under a new root.
-use Rattle.std.proofs.Common.{◌∷◌, [], ℕ, suc, List, Some, None, sym, subst, arith}
-use Rattle.btree_view.specs.View.{NodeMap}
-use Rattle.btree_laws.specs.Moved.{moved_by_split}
-use Rattle.btree_laws.specs.Focus.Subtree.{Subtree, count_at, id_of}
-use Rattle.btree_laws.specs.Focus.Positions.{KeepsPositions, all_positions}
-use Rattle.btree_laws.specs.Focus.Path.{Path, Frame, fill, fill_two, frame_id, frame_index, top, under}
-use Rattle.btree_laws.specs.Focus.Focus.{IsFocus}
+use Rattle.btree_laws.proofs.Common.{◌∷◌, [], ℕ, suc, List, Some, None, sym, subst, arith, NodeMap, moved_by_split, Subtree, count_at, id_of, KeepsPositions, all_positions, Path, Frame, fill, fill_two, frame_id, frame_index, top, under, IsFocus}
 use Rattle.btree_laws.proofs.Splits.KeptPositions.{Alone, split-places, split-root-places}
 use Rattle.btree_laws.proofs.Paths.Frames.{times_in-is}
 use Rattle.btree_laws.proofs.Trees.Numbers.{used-low}

@@ -1,17 +1,6 @@
 -- The tree after a node is split: with its focus at the parent, which has one item more, or under a new root.
-use Rattle.std.proofs.Common.{◌≡◌, ◌≢◌, ◌<◌, ◌≤◌, ◌++◌, ◌∷◌, [], ◌∙◌, ◌+◌, ◌-◌, ℕ, suc, inl, inr, List, length, map, Option, Some, None, refl, sym, ap, subst, arith, append_assoc, append-nil, length-append}
-use Rattle.std.proofs.lemmas.Grind.{flat_map-append}
-use Rattle.std.proofs.lemmas.List.{length-map, map-append}
+use Rattle.btree_laws.proofs.Common.{◌≡◌, ◌≢◌, ◌<◌, ◌≤◌, ◌++◌, ◌∷◌, [], ◌∙◌, ◌+◌, ◌-◌, ℕ, suc, inl, inr, List, length, map, Option, Some, None, refl, sym, ap, subst, arith, append_assoc, append-nil, length-append, flat_map-append, length-map, map-append, insert, option_map, with_item, with_parent, NodeMap, internal, one, times_listed, Holds, IsFilled, IsFilledBelow, Subtree, count_at, id_of, items_under, times_under, view_at, Path, Frame, HoldsAbove, SiblingsFilled, SiblingsHold, after_in, at_branch, at_first, before_in, fill_two, frame_count, frame_id, frame_index, frame_view, items_after, items_before, parent_above, root_above, times_above, times_in_siblings, times_in, top, under, times_used, IsFocus}
 use Rattle.std.proofs.lemmas.List.Edits.{insert-append_right}
-use Rattle.std.specs.List.{insert}
-use Rattle.std.specs.Prelude.{option_map}
-use Rattle.btree_view.specs.Edits.{with_item, with_parent}
-use Rattle.btree_view.specs.View.{NodeMap, internal}
-use Rattle.btree_laws.specs.Lists.{one, times_listed}
-use Rattle.btree_laws.specs.Focus.Subtree.{Holds, IsFilled, IsFilledBelow, Subtree, count_at, id_of, items_under, times_under, view_at}
-use Rattle.btree_laws.specs.Focus.Path.{Path, Frame, HoldsAbove, SiblingsFilled, SiblingsHold, after_in, at_branch, at_first, before_in, fill_two, frame_count, frame_id, frame_index, frame_view, items_after, items_before, parent_above, root_above, times_above, times_in_siblings, times_in, top, under}
-use Rattle.btree_laws.specs.WellFormed.{times_used}
-use Rattle.btree_laws.specs.Focus.Focus.{IsFocus}
 use Rattle.btree_laws.proofs.Paths.Frames.{AllByRecursion-append, above-same, holds-same, one-other, one-self, one-zero, siblings-same, times_in-is, total-append}
 use Rattle.btree_laws.proofs.Trees.Numbers.{same-or, used-low, used-mapped}
 use Rattle.btree_laws.proofs.Splits.TwoParts.{Parted, reparent_children, right-filled, times-top, times_below}

@@ -1,17 +1,7 @@
 -- A node with an item too many in two parts: what each part holds.
-use Rattle.std.proofs.Common.{◌≡◌, ◌≢◌, ◌<◌, ◌≤◌, ◌++◌, ◌∷◌, [], ◌∙◌, ◌+◌, ℕ, zero, suc, inl, inr, List, length, map, Option, Some, refl, sym, ap, subst, arith, append_assoc, length-append}
-use Rattle.std.proofs.lemmas.Grind.{flat_map-append}
-use Rattle.std.proofs.lemmas.List.{length-map, map-append}
-use Rattle.std.specs.List.{AllByRecursion}
-use Rattle.std.specs.Prelude.{option_map}
-use Rattle.btree_view.specs.Edits.{IsSplit, with_parent}
-use Rattle.btree_view.specs.View.{NodeMap, View, children_of, internal, leaf}
-use Rattle.btree_laws.specs.Lists.{one, times_listed, total}
-use Rattle.btree_laws.specs.Focus.Subtree.{Holds, IsFilled, IsFilledBelow, Subtree, count_at, id_of, items_under, later_items, most_at, times_under, view_at}
+use Rattle.btree_laws.proofs.Common.{◌≡◌, ◌≢◌, ◌<◌, ◌≤◌, ◌++◌, ◌∷◌, [], ◌∙◌, ◌+◌, ℕ, zero, suc, inl, inr, List, length, map, Option, Some, refl, sym, ap, subst, arith, append_assoc, length-append, flat_map-append, length-map, map-append, AllByRecursion, option_map, with_parent, NodeMap, View, children_of, internal, leaf, one, times_listed, total, Holds, IsFilled, IsFilledBelow, Subtree, count_at, id_of, items_under, later_items, most_at, times_under, view_at, Path, parent_above, times_used, IsFocus}
+use Rattle.btree_view.specs.Edits.{IsSplit}
 use Rattle.btree_laws.specs.Step.{Splits}
-use Rattle.btree_laws.specs.Focus.Path.{Path, parent_above}
-use Rattle.btree_laws.specs.WellFormed.{times_used}
-use Rattle.btree_laws.specs.Focus.Focus.{IsFocus}
 use Rattle.btree_laws.proofs.LookUp.Descent.{map-parts}
 use Rattle.btree_laws.proofs.Paths.Frames.{AllByRecursion-left, AllByRecursion-right, eachs-same, holds-same, one-self, one-zero, total-append}
 use Rattle.btree_laws.proofs.Trees.Numbers.{same-or, used-low, used-mapped, zero-or}

@@ -1,22 +1,7 @@
 -- One step of a split upward: from a node with an item too many to its parent, or to a new root.
-use Rattle.std.proofs.Common.{◌≡◌, ◌≢◌, ◌<◌, ◌≤◌, ◌++◌, ◌∷◌, [], ◌∙◌, ◌+◌, ℕ, zero, suc, List, length, map, Option, Some, None, refl, sym, ap, subst, arith}
-use Rattle.std.proofs.lemmas.List.{map-append}
-use Rattle.std.specs.Prelude.{IsTrue, slice_get}
-use Rattle.btree_item.specs.Address.{Address}
-use Rattle.btree_view.specs.Edits.{IsSplit, is_internal, with_item}
-use Rattle.btree_view.specs.View.{NodeMap, View, children_of, internal, leaf, most_of, parent_of, size_of}
-use Rattle.btree_laws.specs.Focus.Overflow.{MayOverflowAt, IsRepaired}
-use Rattle.btree_laws.specs.Moved.{moved_by_split}
-use Rattle.btree_laws.specs.Focus.Need.{path_need}
-use Rattle.btree_laws.specs.Lists.{one, times_listed}
-use Rattle.btree_laws.specs.Focus.Subtree.{Subtree, count_at, id_of, most_at, times_under, view_at}
-use Rattle.btree_laws.specs.Step.{WritesNode, GrowsRoot, Splits}
-use Rattle.btree_laws.specs.Focus.Strain.{strain_of}
-use Rattle.btree_laws.specs.Focus.Positions.{IsAt, all_positions}
-use Rattle.btree_laws.specs.Focus.Path.{Path, Frame, at_branch, at_first, fill_two, frame_count, frame_id, frame_index, frame_view, parent_above, top, under}
-use Rattle.btree_laws.specs.WellFormed.{times_used}
-use Rattle.btree_laws.specs.Focus.Focus.{HasFocus, IsFocus}
-use Rattle.btree_laws.specs.Focus.Node.{IsNode}
+use Rattle.btree_laws.proofs.Common.{◌≡◌, ◌≢◌, ◌<◌, ◌≤◌, ◌++◌, ◌∷◌, [], ◌∙◌, ◌+◌, ℕ, zero, suc, List, length, map, Option, Some, None, refl, sym, ap, subst, arith, map-append, IsTrue, slice_get, Address, is_internal, with_item, NodeMap, View, children_of, internal, leaf, most_of, parent_of, size_of, MayOverflowAt, IsRepaired, moved_by_split, path_need, one, times_listed, Subtree, count_at, id_of, most_at, times_under, view_at, WritesNode, strain_of, IsAt, all_positions, Path, Frame, at_branch, at_first, fill_two, frame_count, frame_id, frame_index, frame_view, parent_above, top, under, times_used, HasFocus, IsFocus, IsNode}
+use Rattle.btree_view.specs.Edits.{IsSplit}
+use Rattle.btree_laws.specs.Step.{GrowsRoot, Splits}
 use Rattle.btree_laws.proofs.Paths.Parents.{index-fits, index-here, index-is}
 use Rattle.btree_laws.proofs.Paths.Frames.{one-self, one-zero, times_in-is, top-view, total-append}
 use Rattle.btree_laws.proofs.Paths.Used.{less-no, less-yes}

@@ -1,7 +1,5 @@
 -- A tree has one strain: the sum does not depend on the list in which the numbers of the nodes are given.
-use Rattle.std.proofs.Common.{◌≡◌, ◌∙◌, ◌<◌, ◌++◌, ◌∷◌, [], ℕ, inl, inr, List, refl, sym, ap, arith}
-use Rattle.btree_view.specs.View.{NodeMap}
-use Rattle.btree_laws.specs.Lists.{one, times_listed, total}
+use Rattle.btree_laws.proofs.Common.{◌≡◌, ◌∙◌, ◌<◌, ◌++◌, ◌∷◌, [], ℕ, inl, inr, List, refl, sym, ap, arith, NodeMap, one, times_listed, total}
 use Rattle.btree_laws.specs.Strain.{IsStrain, strain_in}
 use Rattle.std.specs.Prelude.{Option, Some, None}
 use Rattle.btree_laws.proofs.Paths.Frames.{one-other, one-self, total-append}

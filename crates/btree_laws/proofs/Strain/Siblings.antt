@@ -1,10 +1,5 @@
 -- The node that a merge frees is within the strain of the nodes, and a rotation needs none.
-use Rattle.std.proofs.Common.{◌≡◌, ◌≤◌, [], ◌∙◌, ◌+◌, ◌-◌, ℕ, zero, suc, sym, ap, arith}
-use Rattle.btree_laws.specs.Focus.Pair.{Rotates}
-use Rattle.btree_laws.specs.Focus.Subtree.{Subtree, count_at}
-use Rattle.btree_laws.specs.Focus.Underflow.{debt}
-use Rattle.btree_laws.specs.Focus.Strain.{own_strain, strain_below, strain_of, surplus}
-use Rattle.btree_laws.specs.Focus.Path.{Path, Frame, fill, fill_two, frame_count, top, under}
+use Rattle.btree_laws.proofs.Common.{◌≡◌, ◌≤◌, [], ◌∙◌, ◌+◌, ◌-◌, ℕ, zero, suc, sym, ap, arith, Rotates, Subtree, count_at, debt, own_strain, strain_below, strain_of, surplus, Path, Frame, fill, fill_two, frame_count, top, under}
 use Rattle.btree_laws.proofs.Paths.Frames.{fill-count}
 use Rattle.btree_laws.proofs.Underflow.TreeAddresses.{rotate-join}
 use Rattle.btree_laws.proofs.Splits.Trees.{fill_two-count}

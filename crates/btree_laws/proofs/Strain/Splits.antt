@@ -1,10 +1,7 @@
 -- The node that a split uses is within the strain of the nodes.
-use Rattle.std.proofs.Common.{◌≡◌, ◌≤◌, ◌∷◌, [], ◌+◌, ◌-◌, ℕ, zero, suc, List, length, refl, ap, ◌∙◌, arith, length-append}
+use Rattle.btree_laws.proofs.Common.{◌≡◌, ◌≤◌, ◌∷◌, [], ◌+◌, ◌-◌, ℕ, zero, suc, List, length, refl, ap, ◌∙◌, arith, length-append, insert, Subtree, count_at, most_at, own_strain, strain, strain_below, strain_of, surplus, Path, Frame, at_branch, at_first, fill, fill_two, frame_count, top, under}
 use Rattle.std.proofs.lemmas.List.Edits.{length-insert}
-use Rattle.std.specs.List.{insert}
-use Rattle.btree_laws.specs.Focus.Subtree.{Subtree, count_at, most_at}
-use Rattle.btree_laws.specs.Focus.Strain.{own_strain, strain, strain_below, strain_of_siblings, strain_of, surplus}
-use Rattle.btree_laws.specs.Focus.Path.{Path, Frame, at_branch, at_first, fill, fill_two, frame_count, top, under}
+use Rattle.btree_laws.specs.Focus.Strain.{strain_of_siblings}
 use Rattle.btree_laws.proofs.Paths.Frames.{fill-count, total-append}
 use Rattle.btree_laws.proofs.Splits.Trees.{fill_two-count}
 use Rattle.btree_laws.proofs.Splits.TwoParts.{join}

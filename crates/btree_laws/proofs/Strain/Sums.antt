@@ -1,17 +1,6 @@
 -- The strain of a tree in parts is the sum over the nodes under its root.
-use Rattle.std.proofs.Common.{◌≡◌, ◌≢◌, ◌≤◌, ◌∷◌, [], ◌∙◌, ◌+◌, ◌-◌, ◌==◌, if◌then◌else◌, ℕ, zero, suc, List, length, map, Option, Some, None, refl, sym, ap, subst, arith}
-use Rattle.std.proofs.lemmas.List.{length-map}
-use Rattle.std.specs.List.{AllByRecursion, flat_map}
-use Rattle.btree_view.specs.View.{NodeMap, View, children_in}
-use Rattle.btree_laws.specs.Focus.Search.{levels_below}
-use Rattle.btree_laws.specs.Lists.{one, total}
-use Rattle.btree_laws.specs.Focus.Subtree.{Holds, Subtree, count_at, id_of, times_under, view_at}
-use Rattle.btree_laws.specs.Represents.{numbers_under}
-use Rattle.btree_laws.specs.Focus.Strain.{strain, strain_of, surplus}
-use Rattle.btree_laws.specs.Strain.{strain_in, strain_under, surplus_of}
-use Rattle.btree_laws.specs.Focus.Path.{Path, fill, top, under}
-use Rattle.btree_laws.specs.WellFormed.{IsRooted, IsSized}
-use Rattle.btree_laws.specs.Focus.Focus.{IsUnsizedFocus, IsFocus}
+use Rattle.btree_laws.proofs.Common.{◌≡◌, ◌≢◌, ◌≤◌, ◌∷◌, [], ◌∙◌, ◌+◌, ◌-◌, ◌==◌, if◌then◌else◌, ℕ, zero, suc, List, length, map, Option, Some, None, refl, sym, ap, subst, arith, length-map, AllByRecursion, flat_map, NodeMap, View, children_in, levels_below, one, total, Holds, Subtree, count_at, id_of, times_under, view_at, numbers_under, strain, strain_of, surplus, strain_under, Path, fill, top, under, IsRooted, IsSized, IsUnsizedFocus, IsFocus}
+use Rattle.btree_laws.specs.Strain.{strain_in, surplus_of}
 use Rattle.btree_laws.proofs.Paths.Frames.{one-self, top-view, total-append}
 use Rattle.btree_laws.proofs.Trees.Heights.{levels-is}
 use Rattle.btree_laws.proofs.Paths.Used.{full-no, full-yes}

@@ -1,18 +1,10 @@
 -- How many items a tree has for its height and for its number of nodes.
-use Rattle.std.proofs.Common.{◌≡◌, ◌<◌, ◌≤◌, ◌∷◌, [], ◌∙◌, ◌+◌, ◌*◌, ◌^◌, ℕ, zero, suc, inl, inr, false, List, length, map, Option, Some, None, refl, sym, ap, subst, arith, length-append}
+use Rattle.btree_laws.proofs.Common.{◌≡◌, ◌<◌, ◌≤◌, ◌∷◌, [], ◌∙◌, ◌+◌, ◌*◌, ℕ, zero, suc, inl, inr, false, List, length, map, Option, Some, None, refl, sym, ap, subst, arith, length-append, len, AllByRecursion, flat_map, nat_cmp, is_some, option_map, NodeMap, View, children_in, one, times_listed, total, Holds, IsFilled, IsFilledBelow, Subtree, count_at, id_of, items_under, later_items, numbers_under, IsRooted, IsSized, times_used, Content}
+use Rattle.std.proofs.Common.{◌^◌}
 use Rattle.std.proofs.Common.{mul-le-mul_right}
 use Rattle.std.proofs.Math.Nat.{pow-le-pow_right, pow-succ'}
 use Rattle.std.specs.Cmp.{nat_cmp_total}
-use Rattle.std.specs.FinMap.{empty, get, get-empty, insert, len, len-empty, len-insert, remove}
-use Rattle.std.specs.List.{AllByRecursion, flat_map}
-use Rattle.std.specs.Ordering.{nat_cmp}
-use Rattle.std.specs.Prelude.{is_some, option_map}
-use Rattle.btree_view.specs.View.{NodeMap, View, children_in}
-use Rattle.btree_laws.specs.Lists.{one, times_listed, total}
-use Rattle.btree_laws.specs.Focus.Subtree.{Holds, IsFilled, IsFilledBelow, Subtree, count_at, id_of, items_under, later_items}
-use Rattle.btree_laws.specs.Represents.{numbers_under}
-use Rattle.btree_laws.specs.WellFormed.{IsRooted, IsSized, times_used}
-use Rattle.btree_store.specs.Content.{Content}
+use Rattle.std.specs.FinMap.{empty, get, get-empty, insert, len-empty, len-insert, remove}
 use Rattle.btree_store.specs.ContentLaws.{get-remove_other, get-remove_same, is_insert, same_content}
 use Rattle.btree_laws.proofs.Paths.Frames.{one-other, one-self}
 use Rattle.btree_laws.proofs.Trees.Numbers.{less-or, same-or, used-low, used-mapped, used-none, used-some}

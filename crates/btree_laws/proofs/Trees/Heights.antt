@@ -1,10 +1,5 @@
 -- How high a tree is, and how many items its levels require.
-use Rattle.std.proofs.Common.{◌≡◌, ◌<◌, ◌≤◌, ◌++◌, ◌∷◌, [], ℕ, zero, suc, List, length, Option, Some, refl, ap, arith, length-append}
-use Rattle.btree_view.specs.View.{NodeMap}
-use Rattle.btree_laws.specs.Focus.Search.{levels_below}
-use Rattle.btree_laws.specs.Focus.Subtree.{Holds, IsFilled, IsFilledBelow, Subtree, count_at, id_of, items_under, later_items}
-use Rattle.btree_laws.specs.Focus.Path.{Path, items_after, items_before, least_at, top, under}
-use Rattle.btree_laws.specs.Focus.Focus.{IsFocus}
+use Rattle.btree_laws.proofs.Common.{◌≡◌, ◌<◌, ◌≤◌, ◌++◌, ◌∷◌, [], ℕ, zero, suc, List, length, Option, Some, refl, ap, arith, length-append, NodeMap, levels_below, Holds, IsFilled, IsFilledBelow, Subtree, count_at, id_of, items_under, later_items, Path, items_after, items_before, least_at, top, under, IsFocus}
 
 module _ (A : Type 0) where
   -- the levels below a node are the height of its subtree

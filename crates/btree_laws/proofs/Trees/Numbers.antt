@@ -1,11 +1,6 @@
 -- Numbers in lists and under nodes, counted.
-use Rattle.std.proofs.Common.{◌≡◌, ◌≢◌, ◌<◌, ◌≤◌, ◌⊎◌, ◌++◌, ◌∷◌, [], ◌+◌, ℕ, zero, suc, inl, inr, List, length, map, Option, Some, None, refl, ap, arith, option_map}
-use Rattle.std.specs.List.{AllByRecursion, flat_map}
-use Rattle.btree_view.specs.View.{NodeMap, children_in, View}
-use Rattle.btree_laws.specs.Lists.{one, times_listed, total}
-use Rattle.btree_laws.specs.Focus.Subtree.{Holds, Subtree, id_of, times_under}
-use Rattle.btree_laws.specs.Represents.{numbers_under}
-use Rattle.btree_laws.specs.WellFormed.{times_used}
+use Rattle.btree_laws.proofs.Common.{◌≡◌, ◌≢◌, ◌<◌, ◌≤◌, ◌⊎◌, ◌++◌, ◌∷◌, [], ◌+◌, ℕ, zero, suc, inl, inr, List, length, map, Option, Some, None, refl, ap, arith, AllByRecursion, flat_map, NodeMap, children_in, View, one, times_listed, total, Holds, Subtree, id_of, times_under, numbers_under, times_used}
+use Rattle.std.proofs.Common.{option_map}
 use Rattle.btree_laws.proofs.Paths.Frames.{one-self, total-append}
 
 -- of two numbers one is less, or they are equal

@@ -1,11 +1,5 @@
 -- Trees of one leaf.
-use Rattle.std.proofs.Common.{◌≡◌, ◌≢◌, ℕ, ◌<◌, ◌≤◌, List, [], ◌∷◌, length, Some, None, arith, inl, inr, refl, sym, ap, subst}
-use Rattle.std.proofs.lemmas.Bool.{cases_eq}
-use Rattle.std.proofs.lemmas.Bool.Decides.{nat_tests}
-use Rattle.btree_view.specs.View.{View, item_in, leaf, NodeMap, size_of, most_of}
-use Rattle.btree_laws.specs.Lists.{times_listed}
-use Rattle.btree_laws.specs.Place.{IsPlace, IsPlaceOf}
-use Rattle.btree_laws.specs.WellFormed.{times_used, least_of, IsSized, IsRooted}
+use Rattle.btree_laws.proofs.Common.{◌≡◌, ◌≢◌, ℕ, ◌<◌, ◌≤◌, List, [], ◌∷◌, length, Some, None, arith, inl, inr, refl, sym, ap, subst, cases_eq, nat_tests, View, item_in, leaf, NodeMap, size_of, most_of, times_listed, IsPlace, IsPlaceOf, times_used, least_of, IsSized, IsRooted}
 
 -- the only node is a leaf with these items and no parent
 pub record IsOneLeaf {A : Type 0} (node_at : NodeMap A) (root : ℕ) (xs : List A) : Type 0 where

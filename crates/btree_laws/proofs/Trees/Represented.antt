@@ -1,8 +1,5 @@
 -- The list that a tree represents, as a function of its nodes.
-use Rattle.std.proofs.Common.{◌≡◌, ℕ, zero, suc, ◌<◌, List, [], ◌∷◌, ◌++◌, length, map, Option, Some, refl, sym, ap, arith, length-append}
-use Rattle.std.specs.List.{flat_map, AllByRecursion}
-use Rattle.btree_view.specs.View.{View, leaf, NodeMap, size_of}
-use Rattle.btree_laws.specs.Represents.{Represents, represented}
+use Rattle.btree_laws.proofs.Common.{◌≡◌, ℕ, zero, suc, ◌<◌, List, [], ◌∷◌, ◌++◌, length, map, Option, Some, refl, sym, ap, arith, length-append, flat_map, AllByRecursion, View, leaf, NodeMap, size_of, Represents, represented}
 
 module _ {A : Type 0} (node_at : NodeMap A) where
   represented-rest : (height levels : ℕ) (parent : Option ℕ)

@@ -1,12 +1,5 @@
 -- The numbers of items of nodes, for a map of nodes and for the subtrees that it holds.
-use Rattle.std.proofs.Common.{◌≡◌, ◌≢◌, ◌<◌, ◌≤◌, ◌++◌, ◌∷◌, [], ◌∙◌, ◌+◌, ℕ, zero, suc, inl, inr, List, length, map, Option, Some, refl, sym, ap, subst, arith}
-use Rattle.std.proofs.lemmas.Bool.Decides.{nat_tests}
-use Rattle.std.specs.List.{AllByRecursion}
-use Rattle.btree_view.specs.View.{NodeMap, View, most_of, parent_of, size_of}
-use Rattle.btree_laws.specs.Lists.{one, total}
-use Rattle.btree_laws.specs.Focus.Subtree.{Holds, IsFilled, IsFilledBelow, Subtree, count_at, id_of, most_at, times_under, view_at}
-use Rattle.btree_laws.specs.Focus.Path.{Path, AreFilled, Frame, HoldsAbove, SiblingsFilled, SiblingsHold, at_branch, at_first, frame_count, frame_id, frame_view, least_at, parent_above, root_above, times_above, times_in_siblings, top, under}
-use Rattle.btree_laws.specs.WellFormed.{IsSized, least_of}
+use Rattle.btree_laws.proofs.Common.{◌≡◌, ◌≢◌, ◌<◌, ◌≤◌, ◌++◌, ◌∷◌, [], ◌∙◌, ◌+◌, ℕ, zero, suc, inl, inr, List, length, map, Option, Some, refl, sym, ap, subst, arith, nat_tests, AllByRecursion, NodeMap, View, most_of, parent_of, size_of, one, total, Holds, IsFilled, IsFilledBelow, Subtree, count_at, id_of, most_at, times_under, view_at, Path, AreFilled, Frame, HoldsAbove, SiblingsFilled, SiblingsHold, at_branch, at_first, frame_count, frame_id, frame_view, least_at, parent_above, root_above, times_above, times_in_siblings, top, under, IsSized, least_of}
 use Rattle.btree_laws.proofs.Paths.Frames.{one-other, one-self, times_in-is, top-view}
 use Rattle.btree_laws.proofs.Trees.Numbers.{same-or, zero-or}
 

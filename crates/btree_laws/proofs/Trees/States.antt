@@ -1,18 +1,12 @@
 -- The definitions on a tree's state, from those on its nodes: the list is the one that the nodes represent.
-use Rattle.std.proofs.Common.{◌≡◌, ℕ, zero, suc, ◌+◌, ◌*◌, ◌<◌, ◌≤◌, List, [], ◌++◌, length, map, Option, Some, None, option_map, refl, sym, ap, subst, ◌∙◌, arith, length-append}
+use Rattle.btree_laws.proofs.Common.{◌≡◌, ℕ, zero, suc, ◌+◌, ◌*◌, ◌<◌, ◌≤◌, List, [], ◌++◌, length, map, Option, Some, None, refl, sym, ap, subst, ◌∙◌, arith, length-append, nat_cmp, flat_map, Ordering, Content, NodeMap, View, children_in, Represents, numbers_under, IsFormed, IsOffByOne, IsRooted, IsWellFormed}
+use Rattle.std.proofs.Common.{option_map}
 use Rattle.std.specs.FinMap as finite
-use Rattle.std.specs.Ordering.{nat_cmp}
-use Rattle.std.specs.List.{flat_map}
-use Rattle.std.specs.declared.cmp.Ordering.{Ordering}
-use Rattle.btree_store.specs.Content.{Content}
 use Rattle.btree_store.specs.ContentLaws.{same_content}
 use Rattle.btree_item.proofs.PairEdits.{Ascends-none}
 use Rattle.btree_node.specs.Node.{view_of}
 use Rattle.btree_node.specs.declared.node.Node.{Node}
-use Rattle.btree_view.specs.View.{NodeMap, View, children_in}
-use Rattle.btree_laws.specs.Represents.{Represents, numbers_under}
 use Rattle.btree_laws.specs.TreeState.{TreeState, IsBTree, IsBTreeButLength, IsOffByOneAt, node_map, pairs_of, pairs_under, views}
-use Rattle.btree_laws.specs.WellFormed.{IsFormed, IsOffByOne, IsRooted, IsWellFormed}
 use Rattle.btree_laws.proofs.Trees.Represented.{represented-is}
 use Rattle.btree_laws.proofs.Trees.Density.{few-used}
 use Rattle.btree_laws.proofs.Trees.Stores.{len-views}

@@ -1,17 +1,11 @@
 -- Stores of nodes as maps of nodes.
-use Rattle.std.proofs.Common.{◌≡◌, ℕ, ◌<◌, ◌≤◌, List, length, Option, Some, None, IsSome, refl, sym, ap, ◌∙◌, option_map, option_and_then, slice_get, arith}
+use Rattle.btree_laws.proofs.Common.{◌≡◌, ℕ, ◌<◌, ◌≤◌, List, length, Option, Some, None, IsSome, refl, sym, ap, ◌∙◌, option_and_then, arith, Content, Address, View, leaf, internal, items_of, item_in, most_of, NodeMap, item_at, IsWithin, times_listed, WritesNode, times_used}
+use Rattle.std.proofs.Common.{option_map, slice_get}
 use Rattle.std.specs.FinMap as map
-use Rattle.btree_store.specs.Content.{Content}
 use Rattle.btree_store.specs.ContentLaws.{get-insert_same, get-insert_other}
-use Rattle.btree_item.specs.Address.{Address}
 use Rattle.btree_node.specs.declared.node.Node.{Node}
 use Rattle.btree_node.specs.Node.{view_of}
-use Rattle.btree_view.specs.View.{View, leaf, internal, items_of, item_in, most_of, NodeMap}
-use Rattle.btree_laws.specs.Place.{item_at, IsWithin}
-use Rattle.btree_laws.specs.Lists.{times_listed}
-use Rattle.btree_laws.specs.Step.{WritesNode}
 use Rattle.btree_laws.specs.TreeState.{views}
-use Rattle.btree_laws.specs.WellFormed.{times_used}
 use Rattle.btree_laws.proofs.Trees.Density.{len-listed}
 use Rattle.btree_laws.proofs.Trees.Numbers.{used-mapped}
 

@@ -1,14 +1,7 @@
 -- Where the items of a node's subtree are in the list of the tree.
-use Rattle.std.proofs.Common.{◌≡◌, ◌⊎◌, ℕ, zero, suc, ◌+◌, ◌<◌, List, [], ◌∷◌, ◌++◌, length, map, Option, Some, refl, sym, ap, subst, ◌∙◌, inl, inr, arith, append_assoc, append-nil}
-use Rattle.std.specs.List.{AllByRecursion, flat_map}
-use Rattle.std.proofs.lemmas.Bool.{cases_eq}
-use Rattle.std.proofs.lemmas.Bool.Decides.{nat_tests}
-use Rattle.btree_view.specs.View.{NodeMap}
-use Rattle.btree_laws.specs.Represents.{Represents, numbers_under}
-use Rattle.btree_laws.specs.Place.{IsSubtreeAt}
+use Rattle.btree_laws.proofs.Common.{◌≡◌, ◌⊎◌, ℕ, zero, suc, ◌+◌, ◌<◌, List, [], ◌∷◌, ◌++◌, length, map, Option, Some, refl, sym, ap, subst, ◌∙◌, inl, inr, arith, append_assoc, append-nil, AllByRecursion, flat_map, cases_eq, nat_tests, NodeMap, Represents, numbers_under, IsSubtreeAt, times_listed}
 use Rattle.btree_laws.proofs.Trees.Numbers.{listed-append}
 use Rattle.btree_laws.proofs.Paths.Frames.{one-other}
-use Rattle.btree_laws.specs.Lists.{times_listed}
 
 module _ {A : Type 0} (node_at : NodeMap A) where
   pub record HasSubtreeAt (xs : List A) (id : ℕ) : Type 0 where

@@ -1,9 +1,5 @@
 -- From the list that nodes represent to a subtree as one value, and back.
-use Rattle.std.proofs.Common.{◌≡◌, ◌++◌, ◌∷◌, [], ◌∙◌, ℕ, zero, suc, List, map, Option, Some, refl, sym, ap}
-use Rattle.std.specs.List.{AllByRecursion, flat_map}
-use Rattle.btree_view.specs.View.{NodeMap, internal}
-use Rattle.btree_laws.specs.Focus.Subtree.{Holds, Subtree, id_of, items_under, later_items}
-use Rattle.btree_laws.specs.Represents.{Represents}
+use Rattle.btree_laws.proofs.Common.{◌≡◌, ◌++◌, ◌∷◌, [], ◌∙◌, ℕ, zero, suc, List, map, Option, Some, refl, sym, ap, AllByRecursion, flat_map, NodeMap, internal, Holds, Subtree, id_of, items_under, later_items, Represents}
 
 module _ (A : Type 0) where
   represents-each : (node_at : NodeMap A) (h : ℕ) (p : Option ℕ)

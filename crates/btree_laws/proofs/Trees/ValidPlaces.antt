@@ -1,8 +1,5 @@
 -- Nodes that represent a list are there, and addresses that have a place are valid.
-use Rattle.std.proofs.Common.{◌≡◌, ℕ, zero, suc, inl, inr, List, map, Option, Some, None, refl, sym, subst, arith}
-use Rattle.btree_view.specs.View.{View, NodeMap, leaf, internal, item_in}
-use Rattle.btree_laws.specs.Place.{IsEnd, IsPlace, IsPlaceOf, IsValid, IsWithin}
-use Rattle.btree_laws.specs.Represents.{Represents}
+use Rattle.btree_laws.proofs.Common.{◌≡◌, ℕ, zero, suc, inl, inr, List, map, Option, Some, None, refl, sym, subst, arith, View, NodeMap, leaf, internal, item_in, IsEnd, IsPlace, IsPlaceOf, IsValid, IsWithin, Represents}
 use Rattle.btree_laws.proofs.Places.Words.{item-within}
 
 module _ {A : Type 0} (node_at : NodeMap A) where

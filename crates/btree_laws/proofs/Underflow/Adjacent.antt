@@ -1,22 +1,7 @@
 -- Two adjacent siblings, one of them with too few items, as code sees them, and the steps that fix it.
-use Rattle.std.proofs.Common.{◌≡◌, ◌≢◌, ◌<◌, ◌≤◌, ◌++◌, ◌∷◌, [], ◌+◌, ℕ, zero, suc, inl, inr, List, length, map, Option, Some, refl, sym, ap, subst, arith, length-append}
-use Rattle.std.specs.List.{AllByRecursion}
-use Rattle.std.specs.Prelude.{IsTrue, option_map}
-use Rattle.btree_item.specs.Address.{Address}
-use Rattle.btree_view.specs.Edits.{is_internal, with_parent}
-use Rattle.btree_view.specs.View.{NodeMap, View, children_of, size_of, most_of}
-use Rattle.btree_laws.specs.Focus.Overflow.{IsRepaired}
-use Rattle.btree_laws.specs.Lists.{times_listed}
-use Rattle.btree_laws.specs.SiblingSteps.{Merges, RotatesLeft, RotatesRight}
-use Rattle.btree_laws.specs.Moved.{first_in, moved_by_merge, moved_by_rotate_left, moved_by_rotate_right}
-use Rattle.btree_laws.specs.Need.{levels_above}
-use Rattle.btree_laws.specs.Focus.Pair.{first_of}
-use Rattle.btree_laws.specs.Focus.Subtree.{Holds, IsFilled, Subtree, count_at, id_of, items_under, most_at, view_at}
-use Rattle.btree_laws.specs.Focus.Underflow.{MayUnderflowAt, debt}
-use Rattle.btree_laws.specs.Focus.Strain.{strain_of}
-use Rattle.btree_laws.specs.Focus.Positions.{IsAt, all_positions}
-use Rattle.btree_laws.specs.Focus.Path.{Path, Frame, after_in, at_branch, at_first, before_in, depth, fill, fill_two, frame_count, frame_id, frame_index, items_after, items_before, least_at, parent_above}
-use Rattle.btree_laws.specs.WellFormed.{times_used}
+use Rattle.btree_laws.proofs.Common.{◌≡◌, ◌≢◌, ◌<◌, ◌≤◌, ◌++◌, ◌∷◌, [], ◌+◌, ℕ, zero, suc, inl, inr, List, length, map, Option, Some, refl, sym, ap, subst, arith, length-append, AllByRecursion, IsTrue, option_map, Address, is_internal, with_parent, NodeMap, View, children_of, size_of, most_of, IsRepaired, times_listed, Merges, RotatesLeft, moved_by_merge, moved_by_rotate_left, moved_by_rotate_right, levels_above, first_of, Holds, IsFilled, Subtree, count_at, id_of, items_under, most_at, view_at, MayUnderflowAt, debt, strain_of, IsAt, all_positions, Path, Frame, after_in, at_branch, at_first, before_in, depth, fill, fill_two, frame_count, frame_id, frame_index, items_after, items_before, least_at, parent_above, times_used}
+use Rattle.btree_laws.specs.SiblingSteps.{RotatesRight}
+use Rattle.btree_laws.specs.Moved.{first_in}
 use Rattle.btree_laws.proofs.Paths.Parents.{deep-enough, levels-above-is}
 use Rattle.btree_laws.proofs.Paths.Frames.{fill-count, fill-id, one-other, one-zero, top-view}
 use Rattle.btree_laws.proofs.Splits.Upward.{children-below}

@@ -1,13 +1,8 @@
 -- What code does for a rotation or a merge, call by call: three nodes are written one after another, or two are written
 -- and one is removed, and children get their new parent.
-use Rattle.std.proofs.Common.{◌≡◌, ◌≢◌, ◌<◌, ◌++◌, ◌∷◌, ◌∙◌, ℕ, suc, inl, inr, List, Some, refl, sym, ap}
-use Rattle.std.specs.Prelude.{option_map, slice_get}
-use Rattle.std.specs.List.{remove}
-use Rattle.btree_view.specs.Edits.{with_parent}
-use Rattle.btree_view.specs.View.{NodeMap, View, children_of, items_of}
-use Rattle.btree_laws.specs.SiblingSteps.{IsRemade, Merges, Writes}
-use Rattle.btree_laws.specs.Lists.{times_listed}
-use Rattle.btree_laws.specs.Step.{Reparents, RemovesNode, WritesNode}
+use Rattle.btree_laws.proofs.Common.{◌≡◌, ◌≢◌, ◌<◌, ◌++◌, ◌∷◌, ◌∙◌, ℕ, suc, inl, inr, List, Some, refl, sym, ap, option_map, slice_get, remove, with_parent, NodeMap, View, children_of, items_of, IsRemade, Merges, times_listed, RemovesNode, WritesNode}
+use Rattle.btree_laws.specs.SiblingSteps.{Writes}
+use Rattle.btree_laws.specs.Step.{Reparents}
 use Rattle.btree_laws.proofs.Trees.Numbers.{zero-or}
 
 -- a list of children that does not have a number

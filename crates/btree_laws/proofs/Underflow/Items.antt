@@ -1,10 +1,5 @@
 -- Two adjacent siblings between which an item moves, or that are merged: their items, children, numbers and counts.
-use Rattle.std.proofs.Common.{◌≡◌, ◌<◌, ◌++◌, ◌∷◌, [], ◌∙◌, ◌+◌, ℕ, zero, suc, List, length, map, Option, None, refl, sym, ap, subst, arith, length-append}
-use Rattle.btree_view.specs.Edits.{is_internal}
-use Rattle.btree_view.specs.View.{View, children_of, internal, items_of, leaf, parent_of}
-use Rattle.btree_laws.specs.Lists.{as_list, one}
-use Rattle.btree_laws.specs.Focus.Pair.{Rotates, first_of}
-use Rattle.btree_laws.specs.Focus.Subtree.{IsFilled, IsFilledBelow, Subtree, count_at, id_of, items_under, times_under, view_at}
+use Rattle.btree_laws.proofs.Common.{◌≡◌, ◌<◌, ◌++◌, ◌∷◌, [], ◌∙◌, ◌+◌, ℕ, zero, suc, List, length, map, Option, None, refl, sym, ap, subst, arith, length-append, is_internal, View, children_of, internal, items_of, leaf, parent_of, as_list, one, Rotates, first_of, IsFilled, IsFilledBelow, Subtree, count_at, id_of, items_under, times_under, view_at}
 use Rattle.btree_laws.proofs.Splits.KeptPositions.{join-items}
 use Rattle.btree_laws.proofs.LookUp.Descent.{cons-parts, snoc}
 use Rattle.btree_laws.proofs.Paths.Frames.{AllByRecursion-append, AllByRecursion-left, AllByRecursion-right, total-append}

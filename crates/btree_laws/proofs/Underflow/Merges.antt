@@ -1,15 +1,5 @@
 -- A merge of two adjacent siblings: the tree with its focus at their parent, which has one item fewer.
-use Rattle.std.proofs.Common.{◌≡◌, ◌≢◌, ◌<◌, ◌≤◌, ◌++◌, ◌∷◌, [], ◌∙◌, ◌+◌, ℕ, zero, suc, inl, inr, List, length, map, Option, Some, None, refl, sym, ap, subst, arith, append_assoc, length-append}
-use Rattle.std.specs.List.{remove}
-use Rattle.std.specs.Prelude.{option_map}
-use Rattle.btree_view.specs.Edits.{with_parent}
-use Rattle.btree_view.specs.View.{NodeMap, View, children_of, items_of}
-use Rattle.btree_laws.specs.SiblingSteps.{IsRemade, Merges}
-use Rattle.btree_laws.specs.Lists.{one, times_listed, total}
-use Rattle.btree_laws.specs.Focus.Subtree.{Holds, IsFilled, Subtree, count_at, id_of, times_under, view_at}
-use Rattle.btree_laws.specs.Focus.Path.{Path, Frame, HoldsAbove, after_in, before_in, fill, fill_two, frame_id, frame_index, items_after, items_before, parent_above, root_above, times_above}
-use Rattle.btree_laws.specs.WellFormed.{times_used}
-use Rattle.btree_laws.specs.Focus.Focus.{IsFocus}
+use Rattle.btree_laws.proofs.Common.{◌≡◌, ◌≢◌, ◌<◌, ◌≤◌, ◌++◌, ◌∷◌, [], ◌∙◌, ◌+◌, ℕ, zero, suc, inl, inr, List, length, map, Option, Some, None, refl, sym, ap, subst, arith, append_assoc, length-append, remove, option_map, with_parent, NodeMap, View, children_of, items_of, IsRemade, Merges, one, times_listed, total, Holds, IsFilled, Subtree, count_at, id_of, times_under, view_at, Path, Frame, HoldsAbove, after_in, before_in, fill, fill_two, frame_id, frame_index, items_after, items_before, parent_above, root_above, times_above, times_used, IsFocus, same_Some}
 use Rattle.btree_laws.proofs.Splits.KeptPositions.{join-items}
 use Rattle.btree_laws.proofs.Paths.Frames.{AllByRecursion-append, above-same, eachs-same, fill-filled, fill-holds, fill-id, fill-items, fill-times, fill-view, holds-same, one-other, one-self, one-zero, siblings-same, times_in-is, top-view}
 use Rattle.btree_laws.proofs.Splits.Upward.{children-below}
@@ -20,7 +10,6 @@ use Rattle.btree_laws.proofs.Trees.Numbers.{same-or, used-low, used-mapped, used
 use Rattle.btree_laws.proofs.Splits.TwoParts.{reparent_children, reparents, join, times-top, times_below, total-top}
 use Rattle.btree_laws.proofs.Strain.Splits.{join-count}
 use Rattle.btree_laws.proofs.Underflow.Items.{children_at, children_at-is, items_at, items_at-is, join-below, join-id, join-times, join-views, numbered}
-use Rattle.std.proofs.lemmas.Option.{same_Some}
 
 module _ (A : Type 0) where
   -- the parent without the item and the child after it

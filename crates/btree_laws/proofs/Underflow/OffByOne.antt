@@ -1,24 +1,6 @@
 -- A tree that is off by one at a node, in the public terms: where its repair begins, and how it ends.
-use Rattle.std.proofs.Common.{◌≡◌, ◌<◌, ◌≤◌, [], ◌∙◌, ◌+◌, ◌==◌, if◌then◌else◌, ℕ, zero, suc, List, length, Option, Some, None, IsSome, refl, sym, ap, subst, arith}
-use Rattle.std.specs.Cmp.{IsTotalOrder}
-use Rattle.std.specs.declared.cmp.Ordering.{Ordering}
-use Rattle.btree_item.specs.Address.{Address}
-use Rattle.btree_view.specs.View.{NodeMap, View, most_of, size_of}
-use Rattle.btree_laws.specs.Focus.Focus.{IsUnsizedFocus}
-use Rattle.btree_laws.specs.Focus.Overflow.{MayOverflowAt, IsRepaired}
-use Rattle.btree_laws.specs.Focus.Need.{IsCountingUpward, path_need_from, path_need}
-use Rattle.btree_laws.specs.Need.{split_need}
-use Rattle.btree_laws.specs.Focus.Node.{IsExemptNode}
-use Rattle.btree_laws.specs.Focus.TreePositions.{IsAddressed}
-use Rattle.btree_laws.specs.Focus.Subtree.{count_at, most_at, view_at}
-use Rattle.btree_laws.specs.Focus.Underflow.{MayUnderflowAt, debt}
-use Rattle.btree_laws.specs.Strain.{debt_of}
-use Rattle.btree_laws.specs.Represents.{numbers_under}
-use Rattle.btree_laws.specs.Step.{Claims}
-use Rattle.btree_laws.specs.Focus.Strain.{strain_of}
-use Rattle.btree_laws.specs.Strain.{strain_under}
-use Rattle.btree_laws.specs.Focus.Path.{Path, depth, least_at, parent_above, top, under}
-use Rattle.btree_laws.specs.WellFormed.{IsFormed, IsNearlySized, IsOffByOne, IsWellFormed, times_used}
+use Rattle.btree_laws.proofs.Common.{◌≡◌, ◌<◌, ◌≤◌, [], ◌∙◌, ◌+◌, ◌==◌, if◌then◌else◌, ℕ, zero, suc, List, length, Option, Some, None, IsSome, refl, sym, ap, subst, arith, IsTotalOrder, Ordering, Address, NodeMap, View, most_of, size_of, IsUnsizedFocus, MayOverflowAt, IsRepaired, path_need_from, path_need, split_need, IsExemptNode, IsAddressed, count_at, most_at, view_at, MayUnderflowAt, debt, debt_of, numbers_under, Claims, strain_of, strain_under, Path, depth, least_at, parent_above, top, under, IsFormed, IsNearlySized, IsOffByOne, IsWellFormed, times_used, same_Some}
+use Rattle.btree_laws.specs.Focus.Need.{IsCountingUpward}
 use Rattle.btree_laws.proofs.Splits.Room.{most-seven}
 use Rattle.btree_laws.proofs.Splits.Claims.{claimed}
 use Rattle.btree_laws.proofs.Paths.Frames.{top-view}
@@ -31,7 +13,6 @@ use Rattle.btree_laws.proofs.Paths.FromRoot.{off-at}
 use Rattle.btree_laws.proofs.Trees.Sizes.{view-most, view-size}
 use Rattle.btree_laws.proofs.Paths.UnsizedFocus.{focus-unsized}
 use Rattle.btree_laws.proofs.Strain.Sums.{strain-unsized}
-use Rattle.std.proofs.lemmas.Option.{same_Some}
 
 some-used : {X : Type 0} (o : Option X) → IsSome o → 0 < times_used o
 some-used None i = absurd (cc)

@@ -1,16 +1,5 @@
 -- Which step fixes an underflow, and how many levels are above a node.
-use Rattle.std.proofs.Common.{◌≡◌, ◌≢◌, ◌≤◌, ◌∙◌, ◌+◌, [], ℕ, zero, suc, List, length, Option, Some, None, sym, ap, subst, arith}
-use Rattle.std.proofs.lemmas.Option.{same_Some}
-use Rattle.btree_item.specs.Address.{Address}
-use Rattle.btree_view.specs.View.{NodeMap, View, parent_of}
-use Rattle.btree_laws.specs.Need.{levels_above}
-use Rattle.btree_laws.specs.Focus.Search.{levels_below}
-use Rattle.btree_laws.specs.Focus.Subtree.{Subtree, id_of, view_at}
-use Rattle.btree_laws.specs.Focus.Underflow.{MayUnderflowAt}
-use Rattle.btree_laws.specs.Represents.{Represents}
-use Rattle.btree_laws.specs.Focus.Path.{Path, HoldsAbove, depth, frame_id, frame_view, parent_above, root_above, times_above, top, under}
-use Rattle.btree_laws.specs.WellFormed.{IsRooted}
-use Rattle.btree_laws.specs.Focus.Focus.{IsFocus}
+use Rattle.btree_laws.proofs.Common.{◌≡◌, ◌≢◌, ◌≤◌, ◌∙◌, ◌+◌, [], ℕ, zero, suc, List, length, Option, Some, None, sym, ap, subst, arith, same_Some, Address, NodeMap, View, parent_of, levels_above, levels_below, Subtree, id_of, view_at, MayUnderflowAt, Represents, Path, HoldsAbove, depth, frame_id, frame_view, parent_above, root_above, times_above, top, under, IsRooted, IsFocus}
 use Rattle.btree_laws.proofs.Paths.Frames.{times_in-is, top-view}
 use Rattle.btree_laws.proofs.Trees.Heights.{levels-is}
 use Rattle.btree_laws.proofs.Trees.Numbers.{times-own, used-low}

@@ -1,15 +1,8 @@
 -- A rotation makes two other nodes of two adjacent siblings, with the same list and the same numbers.
-use Rattle.std.proofs.Common.{◌≡◌, ◌≢◌, ◌<◌, ◌≤◌, ◌++◌, ◌∷◌, [], ◌∙◌, ◌+◌, ℕ, zero, suc, inl, inr, List, length, set, Option, Some, None, refl, sym, ap, subst, arith, append-nil, length-append}
+use Rattle.btree_laws.proofs.Common.{◌≡◌, ◌≢◌, ◌<◌, ◌≤◌, ◌++◌, ◌∷◌, [], ◌∙◌, ◌+◌, ℕ, zero, suc, inl, inr, List, length, set, Option, Some, None, refl, sym, ap, subst, arith, append-nil, length-append, is_some, option_map, is_internal, with_parent, NodeMap, View, children_of, items_of, size_of, as_list, one, times_listed, IsRemade, RotatesLeft, Rotates, first_of, Holds, Subtree, count_at, id_of, times_under, view_at, Path, Frame, after_in, before_in, fill_two, frame_id, frame_index, items_after, items_before, parent_above, times_used, same_Some}
 use Rattle.std.proofs.lemmas.List.{same_from_push}
-use Rattle.std.specs.Prelude.{is_some, option_map}
-use Rattle.btree_view.specs.Edits.{HasChildFor, is_internal, with_parent}
-use Rattle.btree_view.specs.View.{NodeMap, View, children_of, items_of, size_of}
-use Rattle.btree_laws.specs.Lists.{as_list, one, times_listed}
-use Rattle.btree_laws.specs.SiblingSteps.{IsRemade, RotatesLeft, RotatesRight, Writes}
-use Rattle.btree_laws.specs.Focus.Pair.{Rotates, first_of}
-use Rattle.btree_laws.specs.Focus.Subtree.{Holds, Subtree, count_at, id_of, times_under, view_at}
-use Rattle.btree_laws.specs.Focus.Path.{Path, Frame, after_in, before_in, fill_two, frame_id, frame_index, items_after, items_before, parent_above}
-use Rattle.btree_laws.specs.WellFormed.{times_used}
+use Rattle.btree_view.specs.Edits.{HasChildFor}
+use Rattle.btree_laws.specs.SiblingSteps.{RotatesRight, Writes}
 use Rattle.btree_laws.proofs.Paths.Frames.{above-same, one-zero, siblings-same, top-view}
 use Rattle.btree_laws.proofs.Splits.NodeAddresses.{Apart}
 use Rattle.btree_laws.proofs.Underflow.Writes.{child-is, down-between, exchanged-view, first-inside, remade-view, to-left, to-right}
@@ -20,7 +13,6 @@ use Rattle.btree_laws.proofs.Trees.Sizes.{view-size}
 use Rattle.btree_laws.proofs.Splits.TwoParts.{append_same, join, times-top}
 use Rattle.btree_laws.proofs.Underflow.Items.{children_at, children_at-is, items_at, items_at-is, kind-is, same-below, same-items, same-times, turned, rotates-left, rotates-right}
 use Rattle.btree_laws.proofs.LookUp.Descent.{cons-parts}
-use Rattle.std.proofs.lemmas.Option.{same_Some}
 
 same-ends : (l l' : List ℕ) (o o' : Option ℕ) → is_some o ≡ is_some o' → l ++ as_list o ≡ l' ++ as_list o'
     → (o ≡ o') × (l ≡ l')

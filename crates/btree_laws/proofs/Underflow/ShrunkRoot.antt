@@ -1,20 +1,9 @@
 -- A root without items is freed: its only child becomes the root, or the tree is empty.
-use Rattle.std.proofs.Common.{◌≡◌, ◌≢◌, ◌≤◌, [], ◌∙◌, ◌+◌, ℕ, suc, inl, inr, List, Some, None, refl, sym, ap, subst, arith, append-nil}
-use Rattle.std.specs.Prelude.{option_map}
-use Rattle.btree_view.specs.Edits.{with_parent}
-use Rattle.btree_view.specs.View.{NodeMap, children_of}
-use Rattle.btree_laws.specs.SiblingSteps.{ShrinksRoot}
-use Rattle.btree_laws.specs.Lists.{one}
-use Rattle.btree_laws.specs.Focus.Subtree.{Subtree, id_of}
-use Rattle.btree_laws.specs.Step.{RemovesNode}
-use Rattle.btree_laws.specs.Focus.Path.{top}
-use Rattle.btree_laws.specs.WellFormed.{times_used}
-use Rattle.btree_laws.specs.Focus.Focus.{IsFocus}
+use Rattle.btree_laws.proofs.Common.{◌≡◌, ◌≢◌, ◌≤◌, [], ◌∙◌, ◌+◌, ℕ, suc, inl, inr, List, Some, None, refl, sym, ap, subst, arith, append-nil, option_map, with_parent, NodeMap, children_of, ShrinksRoot, one, Subtree, id_of, RemovesNode, top, times_used, IsFocus, same_Some}
 use Rattle.btree_laws.proofs.Paths.Frames.{one-other, one-self, one-zero}
 use Rattle.btree_laws.proofs.Trees.Numbers.{same-or, used-low, used-mapped, used-none}
 use Rattle.btree_laws.proofs.Splits.TwoParts.{reparent_children, times-top, times_below}
 use Rattle.btree_laws.proofs.LookUp.Descent.{cons-parts}
-use Rattle.std.proofs.lemmas.Option.{same_Some}
 
 module _ (A : Type 0) (node_at new : NodeMap A) (xs : List A) (n : ℕ) where
   module _ (h : ℕ) (u : Subtree A h) (w : IsFocus A node_at [] n xs (suc h) top (n, u, [])) (child : ℕ)

@@ -1,11 +1,6 @@
 -- The positions of two adjacent siblings that are merged, or between which an item moves, and those below.
-use Rattle.std.proofs.Common.{◌≡◌, ◌≢◌, ◌<◌, ◌++◌, ◌∷◌, [], ◌∙◌, ◌+◌, ◌-◌, ◌==◌, if◌then◌else◌, ℕ, zero, suc, inl, inr, List, length, Option, Some, None, refl, sym, ap, subst, arith, length-append}
-use Rattle.btree_item.specs.Address.{Address}
-use Rattle.btree_laws.specs.Moved.{at_separator, left_after_lending, right_after_merge, right_after_lending, right_after_borrowing, moved_by_merge, moved_by_rotate_left, moved_by_rotate_right, parent_after_merge}
-use Rattle.btree_laws.specs.Focus.Pair.{Rotates, first_of}
-use Rattle.btree_laws.specs.Lists.{total}
-use Rattle.btree_laws.specs.Focus.Subtree.{Subtree, count_at, id_of, times_under}
-use Rattle.btree_laws.specs.Focus.Positions.{KeepsPositions, IsAt, branch_key, branch_positions, address_before, mark, over, address_at, positions_from, positions}
+use Rattle.btree_laws.proofs.Common.{◌≡◌, ◌≢◌, ◌<◌, ◌++◌, ◌∷◌, [], ◌∙◌, ◌+◌, ◌-◌, ◌==◌, if◌then◌else◌, ℕ, zero, suc, inl, inr, List, length, Option, Some, None, refl, sym, ap, subst, arith, length-append, Address, at_separator, moved_by_merge, moved_by_rotate_left, moved_by_rotate_right, Rotates, first_of, total, Subtree, count_at, id_of, times_under, KeepsPositions, IsAt, branch_key, branch_positions, address_before, mark, over, address_at, positions_from, positions}
+use Rattle.btree_laws.specs.Moved.{left_after_lending, right_after_merge, right_after_lending, right_after_borrowing, parent_after_merge}
 use Rattle.btree_laws.proofs.Paths.Frames.{total-append}
 use Rattle.btree_laws.proofs.Splits.NodeAddresses.{Apart, below-kept, ids-apart, pair_row, positions-first}
 use Rattle.btree_laws.proofs.Places.Untouched.{by-equal, by-less, by-more, each-nothing, if-other, if-same, positions-same, entries-same}

@@ -1,8 +1,6 @@
 -- The positions of two adjacent siblings A and B, by rows: B is merged into A, or an item moves between them.
-use Rattle.std.proofs.Common.{◌≡◌, ◌<◌, ◌≤◌, ◌++◌, ◌∷◌, [], ◌∙◌, ◌+◌, ℕ, suc, inl, List, length, Some, None, refl, sym, ap, subst, arith, append_assoc}
-use Rattle.std.specs.List.{AllByRecursion}
-use Rattle.btree_item.specs.Address.{Address}
-use Rattle.btree_laws.specs.Focus.Positions.{KeepsPositions, IsAt, Position, address_before, mark, over, node_positions, address_at, positions_from, positions_to}
+use Rattle.btree_laws.proofs.Common.{◌≡◌, ◌<◌, ◌≤◌, ◌++◌, ◌∷◌, [], ◌∙◌, ◌+◌, ℕ, suc, inl, List, length, Some, None, refl, sym, ap, subst, arith, append_assoc, AllByRecursion, Address, KeepsPositions, IsAt, Position, address_before, mark, over, address_at, positions_from, positions_to}
+use Rattle.btree_laws.specs.Focus.Positions.{node_positions}
 use Rattle.btree_laws.proofs.Splits.CutPositions.{keep-back, keep-front, fits-none, in-none, node_positions-joined, node_positions-then}
 use Rattle.btree_laws.proofs.Places.Lists.{keep-append, keep-mark, keep-more, keep-over, keep-positions_from, keep-to}
 

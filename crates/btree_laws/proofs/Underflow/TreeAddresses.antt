@@ -1,12 +1,6 @@
 -- A rotation, a merge and shrinking the root keep the place of each address of the tree.
-use Rattle.std.proofs.Common.{◌≡◌, ◌≢◌, ◌≤◌, ◌++◌, ◌∷◌, [], ◌∙◌, ◌+◌, ◌-◌, ℕ, zero, suc, inl, inr, List, length, Option, Some, None, refl, sym, ap, subst, arith, append_assoc, append-nil}
-use Rattle.btree_item.specs.Address.{Address}
-use Rattle.btree_laws.specs.Moved.{at_separator, root_after_shrinking, moved_by_merge, moved_by_shrink_root, moved_by_rotate_left, moved_by_rotate_right}
-use Rattle.btree_laws.specs.Focus.Pair.{Rotates, first_of}
-use Rattle.btree_laws.specs.Lists.{one}
-use Rattle.btree_laws.specs.Focus.Subtree.{Subtree, count_at, id_of, times_under}
-use Rattle.btree_laws.specs.Focus.Positions.{KeepsPositions, IsAt, Position, branch_key, branch_positions, address_before, mark, passed, address_at, positions_from, positions, positions_after, positions_before, path_after, path_before, all_positions}
-use Rattle.btree_laws.specs.Focus.Path.{Path, Frame, fill, fill_two, frame_id, frame_index, top}
+use Rattle.btree_laws.proofs.Common.{◌≡◌, ◌≢◌, ◌≤◌, ◌++◌, ◌∷◌, [], ◌∙◌, ◌+◌, ◌-◌, ℕ, zero, suc, inl, inr, List, length, Option, Some, None, refl, sym, ap, subst, arith, append_assoc, append-nil, Address, at_separator, moved_by_merge, moved_by_shrink_root, moved_by_rotate_left, moved_by_rotate_right, Rotates, first_of, one, Subtree, count_at, id_of, times_under, KeepsPositions, IsAt, Position, branch_key, branch_positions, address_before, mark, passed, address_at, positions_from, positions, positions_after, positions_before, path_after, path_before, all_positions, Path, Frame, fill, fill_two, frame_id, frame_index, top}
+use Rattle.btree_laws.specs.Moved.{root_after_shrinking}
 use Rattle.btree_laws.proofs.Splits.KeptPositions.{Alone, elsewhere, near, pair-passed}
 use Rattle.btree_laws.proofs.Paths.Frames.{one-zero}
 use Rattle.btree_laws.proofs.Splits.NodeAddresses.{ids-apart, positions-first}

@@ -1,24 +1,7 @@
 -- One step of an underflow fix upward: from a node to one of its siblings, or to the end.
-use Rattle.std.proofs.Common.{◌≡◌, ◌≢◌, ◌<◌, ◌≤◌, ◌∷◌, [], ◌∙◌, ◌+◌, ℕ, zero, suc, inr, true, false, List, Option, Some, None, refl, sym, ap, subst, arith, append-nil}
-use Rattle.std.specs.Prelude.{IsTrue, slice_get}
-use Rattle.btree_item.specs.Address.{Address}
+use Rattle.btree_laws.proofs.Common.{◌≡◌, ◌≢◌, ◌<◌, ◌≤◌, ◌∷◌, [], ◌∙◌, ◌+◌, ℕ, zero, suc, inr, true, false, List, Option, Some, None, refl, sym, ap, subst, arith, append-nil, IsTrue, slice_get, Address, is_internal, NodeMap, View, children_of, parent_of, size_of, IsRepaired, ShrinksRoot, moved_by_shrink_root, IsPlace, IsValid, one, Subtree, count_at, id_of, most_at, times_under, view_at, MayUnderflowAt, debt, RemovesNode, strain_of, IsAt, positions, all_positions, Path, frame_id, frame_index, frame_view, least_at, parent_above, top, under, IsFormed, times_used, HasFocus, IsFocus, IsNode, same_Some}
 use Rattle.btree_laws.proofs.Underflow.Adjacent.{AdjacentSteps}
-use Rattle.btree_view.specs.Edits.{is_internal}
-use Rattle.btree_view.specs.View.{NodeMap, View, children_of, parent_of, size_of}
-use Rattle.btree_laws.specs.Focus.Overflow.{IsRepaired}
-use Rattle.btree_laws.specs.SiblingSteps.{ShrinksRoot}
-use Rattle.btree_laws.specs.Moved.{moved_by_emptying, moved_by_shrink_root}
-use Rattle.btree_laws.specs.Place.{IsPlace, IsValid}
-use Rattle.btree_laws.specs.Lists.{one}
-use Rattle.btree_laws.specs.Focus.Subtree.{Subtree, count_at, id_of, most_at, times_under, view_at}
-use Rattle.btree_laws.specs.Focus.Underflow.{MayUnderflowAt, debt}
-use Rattle.btree_laws.specs.Step.{RemovesNode}
-use Rattle.btree_laws.specs.Focus.Strain.{strain_of}
-use Rattle.btree_laws.specs.Focus.Positions.{IsAt, positions, all_positions}
-use Rattle.btree_laws.specs.Focus.Path.{Path, frame_id, frame_index, frame_view, least_at, parent_above, top, under}
-use Rattle.btree_laws.specs.WellFormed.{IsFormed, times_used}
-use Rattle.btree_laws.specs.Focus.Focus.{HasFocus, IsFocus}
-use Rattle.btree_laws.specs.Focus.Node.{IsNode}
+use Rattle.btree_laws.specs.Moved.{moved_by_emptying}
 use Rattle.btree_laws.proofs.Paths.Parents.{index-fits, index-here}
 use Rattle.btree_laws.proofs.Paths.Frames.{one-self, top-view}
 use Rattle.btree_laws.proofs.Trees.Numbers.{times-own, used-low, used-one}
@@ -27,7 +10,6 @@ use Rattle.btree_laws.proofs.Underflow.TreeAddresses.{emptied-place, release-pla
 use Rattle.btree_laws.proofs.Underflow.ShrunkRoot.{emptied, released}
 use Rattle.btree_laws.proofs.Paths.SiblingNumbers.{go-after, go-before, inner-is}
 use Rattle.btree_laws.proofs.Trees.Sizes.{frame-size, view-parent, view-size}
-use Rattle.std.proofs.lemmas.Option.{same_Some}
 
 module _ (A : Type 0) (node_at : NodeMap A) (root : ℕ) (xs : List A) (id : ℕ) (expected : Option A) (a : Address)
     (place freed bound : ℕ) (g : MayUnderflowAt A node_at root xs id expected a place freed bound) where

@@ -1,24 +1,14 @@
 -- What a rotation writes: the parent with another item, and the two children, one with the outer child of the other.
-use Rattle.std.proofs.Common.{◌≡◌, ◌≢◌, ◌<◌, ◌≤◌, ◌++◌, ◌∷◌, [], ◌∙◌, ◌+◌, ◌-◌, ℕ, zero, suc, List, length, map, set, Option, Some, None, refl, sym, ap, subst, arith, append_assoc, length-append}
+use Rattle.btree_laws.proofs.Common.{◌≡◌, ◌≢◌, ◌<◌, ◌≤◌, ◌++◌, ◌∷◌, [], ◌∙◌, ◌+◌, ◌-◌, ℕ, zero, suc, List, length, map, set, Option, Some, None, refl, sym, ap, subst, arith, append_assoc, length-append, length-map, remove, option_map, slice_get, is_internal, with_parent, NodeMap, View, children_of, items_of, parent_of, as_list, one, times_listed, total, IsRemade, first_of, Holds, Subtree, id_of, times_under, view_at, Frame, at_branch, at_first, fill, fill_two, frame_index, same_Some}
 use Rattle.std.proofs.Math.Seq.{set-append_seam}
-use Rattle.std.proofs.lemmas.List.{length-map}
 use Rattle.std.proofs.lemmas.List.Edits.{remove-append_right}
-use Rattle.std.specs.List.{remove}
-use Rattle.std.specs.Prelude.{option_map, slice_get}
-use Rattle.btree_view.specs.Edits.{HasChildFor, is_internal, with_parent}
-use Rattle.btree_view.specs.View.{NodeMap, View, children_of, items_of, parent_of}
-use Rattle.btree_laws.specs.Lists.{as_list, one, times_listed, total}
-use Rattle.btree_laws.specs.SiblingSteps.{IsRemade}
-use Rattle.btree_laws.specs.Focus.Pair.{first_of}
-use Rattle.btree_laws.specs.Focus.Subtree.{Holds, Subtree, id_of, times_under, view_at}
-use Rattle.btree_laws.specs.Focus.Path.{Frame, at_branch, at_first, fill, fill_two, frame_index}
+use Rattle.btree_view.specs.Edits.{HasChildFor}
 use Rattle.btree_laws.proofs.LookUp.Descent.{cons-parts, get-after}
 use Rattle.btree_laws.proofs.Paths.Frames.{AllByRecursion-append, AllByRecursion-left, AllByRecursion-right, eachs-same, holds-same, one-self, one-zero, total-append}
 use Rattle.btree_laws.proofs.Splits.NodeAddresses.{Apart}
 use Rattle.btree_laws.proofs.Trees.Sizes.{view-parent}
 use Rattle.btree_laws.proofs.Splits.TwoParts.{reparent_children, times-top, times_below}
 use Rattle.btree_laws.proofs.Underflow.Items.{children_at, children_at-is, ids-append, items_at, items_at-is, keys-append, kind-is, numbered, view-same}
-use Rattle.std.proofs.lemmas.Option.{same_Some}
 
 pub set-seam : {X : Type 0} (front : List X) (x : X) (back : List X) (n : ℕ) (y : X) → length front ≡ n
     → set (front ++ x ∷ back) n y ≡ front ++ y ∷ back

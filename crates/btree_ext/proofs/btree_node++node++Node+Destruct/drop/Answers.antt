@@ -1,5 +1,5 @@
 use Rattle.btree_node.proofs.NodeSizes.{fits-internal, fits-leaf}
-use Rattle.std.proofs.Common.{rules}
+use Rattle.btree_ext.proofs.Common.{rules}
 use Rattle.btree_ext.proofs.btree_node++node++Node+Destruct.drop.Goals as goal
 
 pub drop-requires : goal.drop-requires

@@ -1,9 +1,8 @@
 use Rattle.btree_ext.proofs.InsertLemmas.{exchanged-by_key, exchanged-pairs, gap-for, old-value, put-inserted_by_key}
 use Rattle.btree_ext.proofs.RefusalLemmas.{refused-at-gap}
 use Rattle.btree_ext.proofs.insertion.insert.Goals as goal
-use Rattle.std.proofs.lemmas.Grind.{common_steps}
+use Rattle.btree_ext.proofs.Common.{common_steps, arith, rules}
 use Rattle.btree_ext.proofs.LimitLemmas.{exchanged-within}
-use Rattle.std.proofs.Common.{arith, rules}
 
 pub insert_at_gap-requires-clause-gap : goal.insert_at_gap-requires-clause-gap
 insert_at_gap-requires-clause-gap g c =

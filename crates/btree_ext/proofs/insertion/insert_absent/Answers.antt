@@ -1,4 +1,4 @@
-use Rattle.std.proofs.lemmas.Result.{IfErr-weaker, IfOk-weaker}
+use Rattle.btree_ext.proofs.Common.{IfErr-weaker, IfOk-weaker}
 use Rattle.btree_ext.proofs.AbsentLemmas.{gap-for-absent, inserts-absent, refused-absent}
 use Rattle.btree_ext.proofs.insertion.insert_absent.Goals as goal
 

@@ -1,6 +1,5 @@
-use Rattle.std.proofs.Common.{◌∙◌, subst, arith}
-use Rattle.std.proofs.lemmas.Grind.{common_steps}
-use Rattle.btree_raw.specs.Claimed.{EMPTY, MayRefuseOneOf}
+use Rattle.btree_ext.proofs.Common.{◌∙◌, subst, arith, common_steps, EMPTY}
+use Rattle.btree_raw.specs.Claimed.{MayRefuseOneOf}
 use Rattle.btree_ext.proofs.insertion.insert_and_split.Goals as goal
 
 pub insert_claimed-requires : goal.insert_claimed-requires

@@ -1,5 +1,4 @@
-use Rattle.std.proofs.lemmas.Grind.{common_steps}
-use Rattle.std.proofs.Common.{arith, rules}
+use Rattle.btree_ext.proofs.Common.{common_steps, arith, rules}
 use Rattle.btree_ext.proofs.LimitLemmas.{either-within, inserted-within, refused-within}
 use Rattle.btree_ext.proofs.insertion.insert_at_gap.Goals as goal
 

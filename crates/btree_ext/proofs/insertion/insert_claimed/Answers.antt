@@ -1,8 +1,6 @@
-use Rattle.std.proofs.Common.{arith, refl, sym}
+use Rattle.btree_ext.proofs.Common.{arith, refl, sym, same-len, view}
 use Rattle.btree_raw.proofs.ClaimLemmas.{claims-low}
-use Rattle.btree_raw.proofs.StateLemmas.{same-len}
 use Rattle.btree_ext.proofs.MoreLemmas.{can-add, more-inserted, splitting, the-leaf}
-use Rattle.btree_item.specs.declared.address.Address.TheView.{view}
 use Rattle.btree_ext.proofs.insertion.insert_claimed.Goals as goal
 
 pub unwrap-index-requires : goal.unwrap-index-requires

@@ -1,9 +1,6 @@
-use Rattle.std.proofs.Common.{refl, arith, rules}
-use Rattle.btree_store.specs.ContentLaws.{get-insert_same}
-use Rattle.btree_raw.specs.Claimed.{EMPTY}
+use Rattle.btree_ext.proofs.Common.{refl, arith, rules, get-insert_same, EMPTY, common_steps}
 use Rattle.btree_ext.proofs.FirstLemmas.{first-inserted}
 use Rattle.btree_ext.proofs.insertion.insert_first.Goals as goal
-use Rattle.std.proofs.lemmas.Grind.{common_steps}
 
 pub returns-in-Some-clause-inserted : goal.returns-in-Some-clause-inserted
 returns-in-Some-clause-inserted g c =

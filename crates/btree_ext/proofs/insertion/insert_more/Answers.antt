@@ -1,7 +1,6 @@
-use Rattle.std.proofs.Common.{[], refl, sym, ◌∙◌}
+use Rattle.btree_ext.proofs.Common.{[], refl, sym, ◌∙◌, view}
 use Rattle.btree_raw.proofs.NeedLemmas.{need-split_need}
 use Rattle.btree_ext.proofs.MoreLemmas.{can-add-first, leaf-used, more-inserted, none-claimed, unsplit}
-use Rattle.btree_item.specs.declared.address.Address.TheView.{view}
 use Rattle.btree_ext.proofs.insertion.insert_more.Goals as goal
 
 pub unwrap-requires : goal.unwrap-requires

@@ -1,12 +1,8 @@
-use Rattle.std.proofs.Common.{[], inl, refl, sym, ap, ◌∙◌, arith}
-use Rattle.btree_laws.specs.TreeState.{Kept}
+use Rattle.btree_ext.proofs.Common.{[], inl, refl, sym, ap, ◌∙◌, arith, Kept, same-kept, same-len, leaf-same, view}
 use Rattle.btree_raw.proofs.NeedLemmas.{need-split_need}
-use Rattle.btree_raw.proofs.StateLemmas.{same-kept, same-len}
-use Rattle.btree_find.proofs.LeafLemmas.{leaf-same}
 use Rattle.btree_find.proofs.PlaceLemmas.{node-used, within-node}
 use Rattle.btree_ext.proofs.InsertAtLemmas.{can-leaf, gap-at-leaf, inserts-at, rooted}
 use Rattle.btree_ext.proofs.MoreLemmas.{leaf-used, more-inserted, none-claimed, unsplit}
-use Rattle.btree_item.specs.declared.address.Address.TheView.{view}
 use Rattle.btree_ext.proofs.insertion_at.insert_at.Goals as goal
 
 pub unwrap-requires : goal.unwrap-requires

@@ -1,6 +1,4 @@
-use Rattle.std.proofs.Common.{inl}
-use Rattle.std.proofs.lemmas.Result.{IfErr-weaker, IfOk-weaker}
-use Rattle.btree_find.proofs.LeafLemmas.{leaf-same}
+use Rattle.btree_ext.proofs.Common.{inl, IfErr-weaker, IfOk-weaker, leaf-same}
 use Rattle.btree_ext.proofs.InsertAtLemmas.{gap-at-leaf, inserts-at}
 use Rattle.btree_ext.proofs.RefusalLemmas.{refused-at}
 use Rattle.btree_ext.proofs.LimitLemmas.{either-within, inserted-within, refused-within}

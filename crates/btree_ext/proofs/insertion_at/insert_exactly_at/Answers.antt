@@ -1,5 +1,4 @@
-use Rattle.std.proofs.lemmas.Result.{IfErr-weaker, IfOk-weaker}
-use Rattle.btree_find.proofs.LeafLemmas.{leaf-same}
+use Rattle.btree_ext.proofs.Common.{IfErr-weaker, IfOk-weaker, leaf-same}
 use Rattle.btree_ext.proofs.InsertAtLemmas.{gap-at-leaf, inserts-at}
 use Rattle.btree_ext.proofs.RefusalLemmas.{refused-at}
 use Rattle.btree_ext.proofs.insertion_at.insert_exactly_at.Goals as goal

@@ -1,18 +1,10 @@
-use Rattle.std.proofs.Common.{◌≡◌, ◌∙◌, ◌+◌, ◌-◌, ◌<◌, IsSome, Some, length, slice_get, refl, sym, ap, subst, arith, rules}
-use Rattle.btree_laws.specs.TreeState.{Kept, TreeState, IsBTree, IsOffByOneAt, IsValidIn, node_map}
-use Rattle.btree_node.specs.declared.node.Node.{Node}
-use Rattle.btree_node.specs.Node.{view_of}
-use Rattle.btree_view.specs.View.{children_of}
-use Rattle.btree_raw.specs.Rebalance.{HasRoom, IsRebalanced}
-use Rattle.btree_raw.specs.Steps.{HasCount, HasParent}
+use Rattle.btree_ext.proofs.Common.{◌≡◌, ◌∙◌, ◌+◌, ◌-◌, ◌<◌, IsSome, Some, length, slice_get, refl, sym, ap, subst, arith, rules, Kept, TreeState, IsBTree, IsOffByOneAt, IsValidIn, node_map, Node, view_of, children_of, HasRoom, IsRebalanced, HasCount, HasParent, HasChildBehind, IsInnerAt, IsRemoved, view}
 use Rattle.btree_raw.proofs.FetchedLemmas.{count-written, parent-written}
 use Rattle.btree_find.proofs.PlaceLemmas.{node-used}
 use Rattle.btree_raw.proofs.LastLemmas.{same-state}
-use Rattle.btree_ext.specs.Remove.{HasChildBehind, IsInnerAt, IsRemoved}
 use Rattle.btree_ext.proofs.RemoveAtLemmas.{behind-within, has-behind, inner-by, leaf-counted, leaf-enough, leaf-off, leaf-removed, leaf-room, leaf-valid, on-err, on-ok, vacant-by, vacant-empty}
 use Rattle.btree_ext.proofs.RemoveInnerLemmas.{small-len}
 use Rattle.btree_ext.proofs.LimitLemmas.{removed-within}
-use Rattle.btree_item.specs.declared.address.Address.TheView.{view}
 use Rattle.btree_ext.proofs.removal.remove_at.Goals as goal
 
 pub root_id-requires : goal.root_id-requires

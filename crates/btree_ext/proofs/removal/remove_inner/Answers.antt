@@ -1,12 +1,7 @@
-use Rattle.std.proofs.Common.{◌-◌, sym, subst, arith}
-use Rattle.btree_laws.specs.TreeState.{TreeState, IsOffByOneAt, IsValidIn, node_map}
-use Rattle.btree_raw.specs.Rebalance.{HasRoom, IsRebalanced}
-use Rattle.btree_raw.specs.Steps.{HasCount, HasParent}
+use Rattle.btree_ext.proofs.Common.{◌-◌, sym, subst, arith, TreeState, IsOffByOneAt, IsValidIn, node_map, HasRoom, IsRebalanced, HasCount, HasParent, IsRemoved, view}
 use Rattle.btree_raw.proofs.PlacedLemmas.{but-length}
-use Rattle.btree_ext.specs.Remove.{IsRemoved}
 use Rattle.btree_ext.proofs.RemoveAtLemmas.{beside, left-used, right-leads}
 use Rattle.btree_ext.proofs.RemoveInnerLemmas.{count-kept, has-item, inner-still, is-inner, len-above, parent-kept, removed-inner, replaced-off, replaced-room, replaced-valid, small-len, still-balanced}
-use Rattle.btree_item.specs.declared.address.Address.TheView.{view}
 use Rattle.btree_ext.proofs.removal.remove_inner.Goals as goal
 
 pub first_item_beside-next-requires-clause-beside : goal.first_item_beside-next-requires-clause-beside

@@ -1,5 +1,4 @@
-use Rattle.std.proofs.Common.{arith, rules}
-use Rattle.std.proofs.lemmas.Grind.{common_steps}
+use Rattle.btree_ext.proofs.Common.{arith, rules, common_steps}
 use Rattle.btree_ext.proofs.ReplaceByKeyLemmas.{exchanged-by_key, exchanged-pairs, nothing-old, old-pair, put-by_key, put-pairs}
 use Rattle.btree_ext.proofs.RefusalLemmas.{refused-at-gap}
 use Rattle.btree_ext.proofs.LimitLemmas.{exchanged-within}

@@ -1,8 +1,7 @@
-use Rattle.std.proofs.Common.{Some, ◌∙◌, ap, sym}
+use Rattle.btree_ext.proofs.Common.{Some, ◌∙◌, ap, sym, view}
 use Rattle.std.specs.Option.{option_copied_mut}
 use Rattle.btree_ext.proofs.ExchangeLemmas.{exchanges-at, occupied-some, occupied-used, stood-at}
 use Rattle.btree_ext.proofs.ReplaceLemmas.{pair-exchanged}
-use Rattle.btree_item.specs.declared.address.Address.TheView.{view}
 use Rattle.btree_ext.proofs.replacement.replace_at.Goals as goal
 
 pub node_mut-requires : goal.node_mut-requires

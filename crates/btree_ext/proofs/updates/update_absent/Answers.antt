@@ -1,5 +1,4 @@
-use Rattle.std.proofs.lemmas.Grind.{common_steps}
-use Rattle.std.proofs.Common.{arith, rules}
+use Rattle.btree_ext.proofs.Common.{common_steps, arith, rules}
 use Rattle.btree_ext.proofs.LimitLemmas.{either-within, ran-gap-within, refused-within}
 use Rattle.btree_ext.proofs.updates.update_absent.Goals as goal
 

@@ -1,7 +1,4 @@
-use Rattle.std.proofs.Common.{rules, subst}
-use Rattle.std.proofs.lemmas.Result.{IfErr-weaker}
-use Rattle.btree_item.proofs.PairLemmas.{found-from_Err}
-use Rattle.btree_laws.specs.TreeState.{pairs_of}
+use Rattle.btree_ext.proofs.Common.{rules, subst, IfErr-weaker, found-from_Err, pairs_of}
 use Rattle.btree_find.specs.Answers.{IsAddressOf}
 use Rattle.btree_ext.proofs.RefusalLemmas.{refused-at-gap}
 use Rattle.btree_ext.proofs.UpdateKeyLemmas.{callable-found, granted-found, granted-gap, if_ok-on, ok-each, on_err, on_ok-each, updates-found, updates-gap}

@@ -1,6 +1,4 @@
-use Rattle.std.proofs.Common.{Some, None, refl, subst}
-use Rattle.btree_store.specs.ContentLaws.{get-insert_same}
-use Rattle.btree_raw.specs.Claimed.{EMPTY}
+use Rattle.btree_ext.proofs.Common.{Some, None, refl, subst, get-insert_same, EMPTY}
 use Rattle.btree_ext.proofs.FirstLemmas.{first-inserted}
 use Rattle.btree_ext.proofs.UpdateKeyLemmas.{one-freed, one-granted}
 use Rattle.btree_ext.proofs.updates.update_first.Goals as goal

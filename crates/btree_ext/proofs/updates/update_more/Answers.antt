@@ -1,9 +1,6 @@
-use Rattle.std.proofs.Common.{◌≡◌, ◌∙◌, Some, None, false, sym, ap, subst}
-use Rattle.btree_item.specs.Address.{Address}
-use Rattle.btree_item.specs.declared.address.Address.TheView.{view}
-use Rattle.btree_laws.specs.TreeState.{nodes_needed}
-use Rattle.btree_raw.specs.Claimed.{CanHoldMore, EMPTY, MayRefuseOneOf}
-use Rattle.btree_ext.specs.Insert.{IsGapFor, IsInserted}
+use Rattle.btree_ext.proofs.Common.{◌≡◌, ◌∙◌, Some, None, sym, ap, subst, Address, view, nodes_needed, EMPTY, IsGapFor, IsInserted}
+use Rattle.std.proofs.Common.{false}
+use Rattle.btree_raw.specs.Claimed.{CanHoldMore, MayRefuseOneOf}
 use Rattle.btree_ext.proofs.UpdateKeyLemmas.{gap-used}
 use Rattle.btree_ext.proofs.updates.update_more.Goals as goal
 

@@ -1,21 +1,12 @@
-use Rattle.std.proofs.Common.{◌≡◌, ◌∙◌, ◌+◌, ◌-◌, ◌<◌, IsSome, Option, Some, None, IfSome, length, slice_get, refl, sym, ap, subst, arith}
-use Rattle.btree_node.specs.declared.node.Node.{Node}
-use Rattle.btree_node.specs.Node.{view_of}
-use Rattle.btree_view.specs.View.{children_of}
+use Rattle.btree_ext.proofs.Common.{◌≡◌, ◌∙◌, ◌+◌, ◌-◌, ◌<◌, IsSome, Option, Some, None, IfSome, length, slice_get, refl, sym, ap, subst, arith, Node, view_of, children_of, TreeState, IsBTree, IsOffByOneAt, IsValidIn, item_of, node_map, HasRoom, IsRebalanced, HasCount, HasParent, HasChildBehind, IsInnerAt, IsRemoved, RunsAt, view}
 use Rattle.btree_view.specs.Edits.{with_item_at}
-use Rattle.btree_laws.specs.TreeState.{TreeState, IsBTree, IsOffByOneAt, IsValidIn, item_of, node_map}
-use Rattle.btree_raw.specs.Rebalance.{HasRoom, IsRebalanced}
-use Rattle.btree_raw.specs.Steps.{HasCount, HasParent}
 use Rattle.btree_raw.proofs.FetchedLemmas.{count-written, parent-written}
 use Rattle.btree_raw.proofs.LastLemmas.{same-state}
-use Rattle.btree_ext.specs.Remove.{HasChildBehind, IsInnerAt, IsRemoved}
-use Rattle.btree_ext.specs.Update.{RunsAt}
 use Rattle.btree_ext.proofs.ExchangeLemmas.{occupied-used}
 use Rattle.btree_ext.proofs.RemoveAtLemmas.{behind-within, has-behind, inner-by, leaf-counted, leaf-enough, leaf-off, leaf-removed, leaf-room, leaf-valid, on-err, on-ok, vacant-by}
 use Rattle.btree_find.specs.CallerLaws.{not-vacant}
 use Rattle.btree_ext.proofs.RemoveInnerLemmas.{small-len}
 use Rattle.btree_ext.proofs.UpdateLeafLemmas.{leaf-exchanged, still-leaf, still-room, still-used, still-within, taken-had}
-use Rattle.btree_item.specs.declared.address.Address.TheView.{view}
 use Rattle.btree_ext.proofs.updates_at.update_at.Goals as goal
 
 pub node_mut-node-requires : goal.node_mut-node-requires

@@ -1,15 +1,8 @@
-use Rattle.std.proofs.Common.{◌∙◌, ◌-◌, Option, Some, None, IfSome, sym, ap, subst, arith}
-use Rattle.btree_node.specs.Node.{view_of}
-use Rattle.btree_view.specs.Edits.{with_other_item_at}
-use Rattle.btree_laws.specs.TreeState.{TreeState, IsOffByOneAt, IsValidIn, node_map}
-use Rattle.btree_raw.specs.Rebalance.{HasRoom, IsRebalanced}
-use Rattle.btree_raw.specs.Steps.{HasCount, HasParent}
-use Rattle.btree_ext.specs.Remove.{IsRemoved}
+use Rattle.btree_ext.proofs.Common.{◌∙◌, ◌-◌, Option, Some, None, IfSome, sym, ap, subst, arith, view_of, with_other_item_at, TreeState, IsOffByOneAt, IsValidIn, node_map, HasRoom, IsRebalanced, HasCount, HasParent, IsRemoved, view}
 use Rattle.btree_ext.proofs.RemoveAtLemmas.{beside, left-used, right-leads}
 use Rattle.btree_ext.proofs.RemoveInnerLemmas.{count-kept, has-item, inner-still, is-inner, len-above, parent-kept, removed-inner, replaced-off, replaced-room, replaced-valid, small-len, still-balanced}
 use Rattle.btree_ext.proofs.UpdateInnerLemmas.{held-internal, held-occupied, inner-exchanged, inner-had, last-leaf, last-room, leaf-used}
 use Rattle.btree_ext.proofs.UpdateLeafLemmas.{still-used}
-use Rattle.btree_item.specs.declared.address.Address.TheView.{view}
 use Rattle.btree_ext.proofs.updates_at.update_inner.Goals as goal
 
 pub first_item_beside-next-requires-clause-beside : goal.first_item_beside-next-requires-clause-beside

@@ -1,7 +1,6 @@
-use Rattle.std.proofs.Common.{refl, ap}
+use Rattle.btree_ext.proofs.Common.{refl, ap, found_value, node_map}
 use Rattle.std.specs.FinMap as map
-use Rattle.btree_item.specs.Pairs.{found_value}
-use Rattle.btree_laws.specs.TreeState.{node_map, pairs_under}
+use Rattle.btree_laws.specs.TreeState.{pairs_under}
 use Rattle.btree_ext.proofs.KeyWrittenLemmas.{key_written-tree}
 use Rattle.btree_ext.proofs.values.get_mut.Goals as goal
 

@@ -1,4 +1,4 @@
-use Rattle.std.proofs.Common.{◌∙◌, inl, refl, sym, ap, option_map}
+use Rattle.btree_ext.proofs.Common.{◌∙◌, inl, refl, sym, ap, option_map}
 use Rattle.btree_ext.proofs.KeyWrittenLemmas.{exchanges-by, key_written-tree, written-by}
 use Rattle.btree_ext.proofs.values.get_mut_by.Goals as goal
 

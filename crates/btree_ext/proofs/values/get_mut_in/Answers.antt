@@ -1,5 +1,4 @@
-use Rattle.std.proofs.Common.{◌∙◌, inl, refl, sym, ap, option_map}
-use Rattle.btree_item.proofs.PairLemmas.{found-from_Err}
+use Rattle.btree_ext.proofs.Common.{◌∙◌, inl, refl, sym, ap, option_map, found-from_Err}
 use Rattle.btree_find.specs.Fits.{pairs_below}
 use Rattle.btree_ext.proofs.KeyWrittenLemmas.{exchanges-at_key, key_written-tree, written-at_key}
 use Rattle.btree_ext.proofs.values.get_mut_in.Goals as goal

@@ -1,7 +1,6 @@
-use Rattle.std.proofs.Common.{refl, sym, ap, ◌∙◌, Some}
+use Rattle.btree_ext.proofs.Common.{refl, sym, ap, ◌∙◌, Some, view}
 use Rattle.std.specs.Option.{option_copied_mut}
 use Rattle.btree_ext.proofs.ExchangeLemmas.{item-here_of, occupied-some, occupied-used, written, written-exchanged}
-use Rattle.btree_item.specs.declared.address.Address.TheView.{view}
 use Rattle.btree_ext.proofs.values.pair_mut.Goals as goal
 
 pub node_mut-requires : goal.node_mut-requires

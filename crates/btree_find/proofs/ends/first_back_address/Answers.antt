@@ -1,4 +1,4 @@
-use Rattle.std.proofs.Common.{◌∙◌, arith, sym}
+use Rattle.btree_find.proofs.Common.{◌∙◌, arith, sym}
 use Rattle.btree_find.proofs.EndsLemmas.{first-back-is, first-back-none, root-used}
 use Rattle.btree_find.proofs.WalkLemmas.{address-is}
 use Rattle.btree_find.proofs.ends.first_back_address.Goals as goal

@@ -1,4 +1,4 @@
-use Rattle.std.proofs.Common.{◌∙◌, arith, sym}
+use Rattle.btree_find.proofs.Common.{◌∙◌, arith, sym}
 use Rattle.btree_find.proofs.EndsLemmas.{first-item-is, first-item-none, root-used}
 use Rattle.btree_find.proofs.WalkLemmas.{address-is}
 use Rattle.btree_find.proofs.ends.first_item_address.Goals as goal

@@ -1,4 +1,4 @@
-use Rattle.std.proofs.Common.{◌∙◌, arith, sym}
+use Rattle.btree_find.proofs.Common.{◌∙◌, arith, sym}
 use Rattle.btree_find.proofs.EndsLemmas.{last-valid-is, last-valid-none, root-used}
 use Rattle.btree_find.proofs.PreviousLemmas.{few-last}
 use Rattle.btree_find.proofs.WalkLemmas.{address-is}

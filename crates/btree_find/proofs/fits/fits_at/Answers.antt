@@ -1,4 +1,4 @@
-use Rattle.btree_find.specs.Navigation.{IsPrevious}
+use Rattle.btree_find.proofs.Common.{IsPrevious}
 use Rattle.btree_find.proofs.FitsLemmas.{fits-above, fits-below, fits-by}
 use Rattle.btree_find.proofs.fits.fits_at.Goals as goal
 

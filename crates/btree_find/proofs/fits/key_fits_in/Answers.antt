@@ -1,9 +1,4 @@
-use Rattle.std.proofs.Common.{◌≡◌, ◌∙◌, ℕ, Option, sym, ap, subst, arith}
-use Rattle.btree_node.specs.Node.{view_of}
-use Rattle.btree_laws.specs.Focus.Positions.{address_at, address_before}
-use Rattle.btree_laws.specs.TreeState.{IsValidIn}
-use Rattle.btree_view.specs.View.{size_of}
-use Rattle.btree_find.specs.Navigation.{IsNormalized, IsPrevious}
+use Rattle.btree_find.proofs.Common.{◌≡◌, ◌∙◌, ℕ, Option, sym, ap, subst, arith, view_of, address_at, address_before, IsValidIn, size_of, IsNormalized, IsPrevious}
 use Rattle.btree_find.proofs.FitsLemmas.{fits-in-above, fits-in-below, fits-in-by}
 use Rattle.btree_find.proofs.UnderLemmas.{spans}
 use Rattle.btree_find.proofs.WalkLemmas.{address-is}

@@ -1,7 +1,5 @@
-use Rattle.std.proofs.Common.{◌≡◌, ◌∙◌, IsSome, Some, refl, sym, ap, subst}
+use Rattle.btree_find.proofs.Common.{◌≡◌, ◌∙◌, IsSome, Some, refl, sym, ap, subst, item_of, IsPrevious}
 use Rattle.std.specs.Option.{option_copied}
-use Rattle.btree_laws.specs.TreeState.{item_of}
-use Rattle.btree_find.specs.Navigation.{IsPrevious}
 use Rattle.btree_find.proofs.FitsLemmas.{item-occupied, occupied-low, replaces-below, replaces-by}
 use Rattle.btree_find.proofs.fits.replaces_at.Goals as goal
 

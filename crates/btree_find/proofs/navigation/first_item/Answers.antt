@@ -1,4 +1,4 @@
-use Rattle.std.proofs.Common.{arith}
+use Rattle.btree_find.proofs.Common.{arith}
 use Rattle.btree_find.proofs.WalkLemmas.{address-is, begins-item}
 use Rattle.btree_find.proofs.navigation.first_item.Goals as goal
 

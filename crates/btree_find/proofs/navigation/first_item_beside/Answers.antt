@@ -1,4 +1,4 @@
-use Rattle.std.proofs.Common.{◌∙◌, arith, sym}
+use Rattle.btree_find.proofs.Common.{◌∙◌, arith, sym}
 use Rattle.btree_find.proofs.BesideLemmas.{begins-beside, left-used, right-used}
 use Rattle.btree_find.proofs.WalkLemmas.{address-is, begins-item}
 use Rattle.btree_find.proofs.navigation.first_item_beside.Goals as goal

@@ -1,4 +1,4 @@
-use Rattle.std.proofs.Common.{Some, arith}
+use Rattle.btree_find.proofs.Common.{Some, arith}
 use Rattle.btree_find.proofs.NextLemmas.{child-used, next-along, next-below, next-past}
 use Rattle.btree_find.proofs.navigation.item_after.Goals as goal
 

@@ -1,7 +1,4 @@
-use Rattle.std.proofs.Common.{◌∙◌, ◌<◌, ◌-◌, arith, length, subst, sym}
-use Rattle.std.specs.Prelude.{IfSome}
-use Rattle.btree_node.specs.Node.{view_of}
-use Rattle.btree_view.specs.View.{children_of}
+use Rattle.btree_find.proofs.Common.{◌∙◌, ◌<◌, ◌-◌, arith, length, subst, sym, IfSome, view_of, children_of}
 use Rattle.btree_find.proofs.ParentLemmas.{index-there, parent-used}
 use Rattle.btree_find.proofs.PreviousLemmas.{before-item, before-next, before-none, before-smaller}
 use Rattle.btree_find.proofs.WalkLemmas.{address-is, children-few}

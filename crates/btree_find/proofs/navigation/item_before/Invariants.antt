@@ -1,6 +1,5 @@
 use Rattle.std.specs.FinMap as map
-use Rattle.btree_laws.specs.Need.{levels_above}
-use Rattle.btree_laws.specs.TreeState.{node_map}
+use Rattle.btree_find.proofs.Common.{levels_above, node_map}
 use Rattle.btree_find.proofs.PreviousLemmas.{ClimbsBefore}
 use Rattle.btree_find.proofs.navigation.item_before.Given as goal
 

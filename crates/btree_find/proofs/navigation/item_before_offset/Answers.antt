@@ -1,4 +1,4 @@
-use Rattle.std.proofs.Common.{◌-◌, ◌∙◌, arith, sym}
+use Rattle.btree_find.proofs.Common.{◌-◌, ◌∙◌, arith, sym}
 use Rattle.btree_find.proofs.PreviousLemmas.{before-along, before-below, before-start, below-used, few-last, some-last}
 use Rattle.btree_find.proofs.WalkLemmas.{address-is}
 use Rattle.btree_find.proofs.navigation.item_before_offset.Goals as goal

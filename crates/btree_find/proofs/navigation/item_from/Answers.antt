@@ -1,7 +1,4 @@
-use Rattle.std.proofs.Common.{◌∙◌, ◌<◌, arith, length, subst, sym}
-use Rattle.std.specs.Prelude.{IfSome}
-use Rattle.btree_view.specs.View.{children_of}
-use Rattle.btree_node.specs.Node.{view_of}
+use Rattle.btree_find.proofs.Common.{◌∙◌, ◌<◌, arith, length, subst, sym, IfSome, children_of, view_of}
 use Rattle.btree_find.proofs.ParentLemmas.{index-there, parent-used}
 use Rattle.btree_find.proofs.WalkLemmas.{address-is, children-few, climb-item, climb-next, climb-none, climb-smaller}
 use Rattle.btree_find.proofs.navigation.item_from.Goals as goal

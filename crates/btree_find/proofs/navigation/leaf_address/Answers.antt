@@ -1,9 +1,8 @@
-use Rattle.std.proofs.Common.{Option, ℕ, ◌∙◌, ap, arith, sym}
+use Rattle.btree_find.proofs.Common.{Option, ℕ, ◌∙◌, ap, arith, sym, view}
 use Rattle.btree_find.proofs.LeafLemmas.{leaf-first-below, leaf-here, leaf-last-below, leaf-nowhere}
 use Rattle.btree_find.proofs.PlaceLemmas.{node-used, within-node}
 use Rattle.btree_find.proofs.PreviousLemmas.{below-used, few-last}
 use Rattle.btree_find.proofs.WalkLemmas.{address-is}
-use Rattle.btree_item.specs.declared.address.Address.TheView.{view}
 use Rattle.btree_find.proofs.navigation.leaf_address.Goals as goal
 
 pub returns-in_default : goal.returns-in_default

@@ -1,4 +1,4 @@
-use Rattle.std.proofs.Common.{refl}
+use Rattle.btree_find.proofs.Common.{refl}
 use Rattle.btree_find.proofs.WalkLemmas.{descend-end, descend-next, descend-smaller}
 use Rattle.btree_find.proofs.navigation.leftmost_leaf.Goals as goal
 

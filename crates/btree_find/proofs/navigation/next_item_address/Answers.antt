@@ -1,7 +1,6 @@
-use Rattle.std.proofs.Common.{Some, None, ◌∙◌, sym}
+use Rattle.btree_find.proofs.Common.{Some, None, ◌∙◌, sym, view}
 use Rattle.btree_find.proofs.NextLemmas.{next-at, next-before, next-empty}
 use Rattle.btree_find.proofs.PlaceLemmas.{node-used, within-node}
-use Rattle.btree_item.specs.declared.address.Address.TheView.{view}
 use Rattle.btree_find.proofs.navigation.next_item_address.Goals as goal
 
 pub returns-in_default : goal.returns-in_default

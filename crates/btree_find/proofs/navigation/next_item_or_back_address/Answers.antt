@@ -1,8 +1,7 @@
-use Rattle.std.proofs.Common.{◌+◌, ◌∙◌, arith, sym}
+use Rattle.btree_find.proofs.Common.{◌+◌, ◌∙◌, arith, sym, view}
 use Rattle.btree_find.proofs.OrBackLemmas.{or-after, or-empty, or-first, or-next, or-stays}
 use Rattle.btree_find.proofs.PlaceLemmas.{node-used, within-node}
 use Rattle.btree_find.proofs.WalkLemmas.{address-is}
-use Rattle.btree_item.specs.declared.address.Address.TheView.{view}
 use Rattle.btree_find.proofs.navigation.next_item_or_back_address.Goals as goal
 
 pub returns-in_default : goal.returns-in_default

@@ -1,6 +1,5 @@
-use Rattle.std.proofs.Common.{Some, None, ◌∙◌, sym}
+use Rattle.btree_find.proofs.Common.{Some, None, ◌∙◌, sym, view}
 use Rattle.btree_find.proofs.PlaceLemmas.{empty-leads, node-used, normalized, normalized-at, within-node}
-use Rattle.btree_item.specs.declared.address.Address.TheView.{view}
 use Rattle.btree_find.proofs.navigation.normalize.Goals as goal
 
 pub returns-in_default : goal.returns-in_default

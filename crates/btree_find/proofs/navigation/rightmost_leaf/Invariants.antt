@@ -1,6 +1,5 @@
 use Rattle.std.specs.FinMap as map
-use Rattle.btree_laws.specs.Focus.Search.{levels_below}
-use Rattle.btree_laws.specs.TreeState.{node_map}
+use Rattle.btree_find.proofs.Common.{levels_below, node_map}
 use Rattle.btree_raw.proofs.LastLemmas.{DescendsRight}
 use Rattle.btree_find.proofs.navigation.rightmost_leaf.Given as goal
 

@@ -1,4 +1,4 @@
-use Rattle.std.proofs.Common.{◌∙◌}
+use Rattle.btree_find.proofs.Common.{◌∙◌}
 use Rattle.btree_find.proofs.SearchLemmas.{search-begins, node-used, node-ascends, hit-value, down, miss-value}
 use Rattle.btree_find.proofs.search.get_in.Goals as goal
 

@@ -1,6 +1,4 @@
-use Rattle.std.proofs.Common.{length}
-use Rattle.btree_laws.specs.Focus.Search.{levels_below}
-use Rattle.btree_laws.specs.TreeState.{node_map, pairs_of}
+use Rattle.btree_find.proofs.Common.{length, levels_below, node_map, pairs_of}
 use Rattle.btree_find.proofs.SearchLemmas.{Searches}
 use Rattle.btree_find.proofs.search.get_in.Given as goal
 

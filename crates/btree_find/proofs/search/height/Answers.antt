@@ -1,4 +1,4 @@
-use Rattle.std.proofs.Common.{arith, subst, sym, ◌∙◌}
+use Rattle.btree_find.proofs.Common.{arith, subst, sym, ◌∙◌}
 use Rattle.btree_laws.specs.TreeState.{HasLevelsUnder}
 use Rattle.btree_find.proofs.HeightLemmas.{descending-used, descending-next, descending-end, levels-start}
 use Rattle.btree_find.proofs.search.height.Goals as goal

@@ -1,5 +1,4 @@
-use Rattle.std.proofs.Common.{◌-◌}
-use Rattle.btree_laws.specs.TreeState.{node_map, pairs_of}
+use Rattle.btree_find.proofs.Common.{◌-◌, node_map, pairs_of}
 use Rattle.btree_find.proofs.HeightLemmas.{IsDescending}
 use Rattle.btree_find.proofs.search.height.Given as goal
 

@@ -1,4 +1,4 @@
-use Rattle.std.proofs.Common.{◌≡◌, ◌+◌, sym, ◌∙◌, ap, arith}
+use Rattle.btree_find.proofs.Common.{◌≡◌, ◌+◌, sym, ◌∙◌, ap, arith}
 use Rattle.btree_find.specs.Levels.{comparisons_under}
 use Rattle.btree_find.proofs.HeightLemmas.{ticks-at-root}
 use Rattle.btree_find.proofs.SearchLemmas.{address-whole, no-root}

@@ -1,4 +1,4 @@
-use Rattle.std.proofs.Common.{arith}
+use Rattle.btree_find.proofs.Common.{arith}
 use Rattle.btree_find.proofs.CountLemmas.{counts-begin, counts-down, counts-hit, counts-miss}
 use Rattle.btree_find.proofs.SearchLemmas.{search-begins, node-used, node-ascends, hit, down, miss}
 use Rattle.btree_find.proofs.search.search_from.Goals as goal

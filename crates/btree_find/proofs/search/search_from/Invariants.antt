@@ -1,7 +1,5 @@
-use Rattle.std.proofs.Common.{◌+◌, ◌*◌, ◌≤◌, length}
-use Rattle.btree_laws.specs.Focus.Search.{levels_below}
-use Rattle.btree_laws.specs.TreeState.{node_map, pairs_of}
-use Rattle.btree_find.specs.Levels.{levels_from}
+use Rattle.btree_find.proofs.Common.{◌+◌, ◌≤◌, length, levels_below, node_map, pairs_of, levels_from}
+use Rattle.std.proofs.Common.{◌*◌}
 use Rattle.btree_find.proofs.CountLemmas.{Counts}
 use Rattle.btree_find.proofs.SearchLemmas.{Searches}
 use Rattle.btree_find.proofs.search.search_from.Given as goal

@@ -1,4 +1,4 @@
-use Rattle.std.proofs.Common.{◌∙◌, sym}
+use Rattle.btree_find.proofs.Common.{◌∙◌, sym}
 use Rattle.btree_find.proofs.VisitsLemmas.{front-along, front-down}
 use Rattle.btree_find.proofs.PreviousLemmas.{below-used}
 use Rattle.btree_find.proofs.visits.front_before.Goals as goal

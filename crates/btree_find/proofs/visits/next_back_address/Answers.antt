@@ -1,8 +1,7 @@
-use Rattle.std.proofs.Common.{Some, ◌∙◌, arith, sym}
+use Rattle.btree_find.proofs.Common.{Some, ◌∙◌, arith, sym, view}
 use Rattle.btree_find.proofs.VisitsLemmas.{back-at, back-before, back-empty}
 use Rattle.btree_find.proofs.PlaceLemmas.{node-used, within-node}
 use Rattle.btree_find.proofs.WalkLemmas.{address-is}
-use Rattle.btree_item.specs.declared.address.Address.TheView.{view}
 use Rattle.btree_find.proofs.visits.next_back_address.Goals as goal
 
 pub returns-in_default : goal.returns-in_default

@@ -1,5 +1,4 @@
-use Rattle.std.proofs.lemmas.Grind.{common_steps}
-use Rattle.std.proofs.Common.{arith}
+use Rattle.btree_internal.proofs.Common.{common_steps, arith}
 use Rattle.btree_internal.proofs.internal.branch_at.Goals as goal
 
 pub get-requires : goal.get-requires

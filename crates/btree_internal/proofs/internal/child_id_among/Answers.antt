@@ -1,4 +1,4 @@
-use Rattle.std.proofs.Common.{Some, arith, refl, sym}
+use Rattle.btree_internal.proofs.Common.{Some, arith, refl, sym}
 use Rattle.btree_internal.proofs.BranchLemmas.{child-after}
 use Rattle.btree_internal.proofs.internal.child_id_among.Goals as goal
 

@@ -1,4 +1,4 @@
-use Rattle.std.proofs.Common.{◌+◌, arith, ap, ◌∙◌, length, map}
+use Rattle.btree_internal.proofs.Common.{◌+◌, arith, ap, ◌∙◌, length, map}
 use Rattle.btree_item.specs.Comparisons.{comparisons}
 use Rattle.btree_item.specs.Keys.{count_below, key_place}
 use Rattle.btree_item.proofs.PairLemmas.{count_below-keys_of, key_place-keys_of, slice_get-from_place, found-from_place}

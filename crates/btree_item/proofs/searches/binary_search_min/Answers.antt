@@ -1,8 +1,7 @@
-use Rattle.std.proofs.Common.{◌∙◌, arith, rules}
+use Rattle.btree_item.proofs.Common.{◌∙◌, arith, rules, common_steps}
 use Rattle.btree_item.proofs.KeyLemmas.{Less-from_is_lt, is_lt-from_partial}
 use Rattle.btree_item.proofs.MinLemmas.{AllAbove-from_key, IsAtMostBefore-from_key}
 use Rattle.btree_item.proofs.searches.binary_search_min.Goals as goal
-use Rattle.std.proofs.lemmas.Grind.{common_steps}
 
 pub loop-low-preserved-then-lt : goal.loop-low-preserved-then-lt
 loop-low-preserved-then-lt g c =

@@ -1,4 +1,4 @@
-use Rattle.std.proofs.Common.{◌≤◌, ◌-◌, length, map}
+use Rattle.btree_item.proofs.Common.{◌≤◌, ◌-◌, length, map}
 use Rattle.btree_item.specs.Keys.{AllAbove, IsAtMostBefore}
 use Rattle.btree_item.proofs.searches.binary_search_min.Given as goal
 

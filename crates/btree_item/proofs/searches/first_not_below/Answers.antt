@@ -1,8 +1,7 @@
-use Rattle.std.proofs.Common.{◌∙◌, sym, arith, rules}
+use Rattle.btree_item.proofs.Common.{◌∙◌, sym, arith, rules, common_steps}
 use Rattle.btree_item.proofs.KeyLemmas.{AllBelow-from_key, IsNotBelowAt-next}
 use Rattle.btree_item.proofs.searches.first_not_below.Goals as goal
 use Rattle.btree_item.proofs.searches.first_not_below.Goals.{then-is_after, else-is_after}
-use Rattle.std.proofs.lemmas.Grind.{common_steps}
 
 pub loop-i-preserved : goal.loop-i-preserved
 loop-i-preserved g c = elim c.if-is_after.branch [

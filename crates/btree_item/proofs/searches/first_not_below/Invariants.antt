@@ -1,5 +1,5 @@
-use Rattle.std.proofs.Common.{◌≡◌, ◌+◌, ◌≤◌, ◌<◌, map}
-use Rattle.btree_item.specs.Keys.{AllBelow, IsNotBelowAt}
+use Rattle.btree_item.proofs.Common.{◌≡◌, ◌+◌, ◌≤◌, ◌<◌, map, AllBelow}
+use Rattle.btree_item.specs.Keys.{IsNotBelowAt}
 use Rattle.btree_item.proofs.searches.first_not_below.Given as goal
 
 abbrev pub invariant-loop-i : goal.invariant-loop-i

@@ -1,4 +1,4 @@
-use Rattle.std.proofs.Common.{rules}
+use Rattle.btree_item.proofs.Common.{rules}
 use Rattle.btree_item.proofs.searches.key_at.Goals as goal
 
 pub get-requires : goal.get-requires

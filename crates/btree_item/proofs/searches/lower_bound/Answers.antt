@@ -1,8 +1,6 @@
-use Rattle.std.proofs.Common.{◌∙◌, sym, arith, rules}
-use Rattle.std.proofs.lemmas.List.{length-map}
+use Rattle.btree_item.proofs.Common.{◌∙◌, sym, arith, rules, length-map, common_steps}
 use Rattle.btree_item.proofs.KeyLemmas.{AllBelow-from_key, IsNotBelowAt-end}
 use Rattle.btree_item.proofs.searches.lower_bound.Goals as goal
-use Rattle.std.proofs.lemmas.Grind.{common_steps}
 
 pub first_not_below-requires-then-is_after : goal.first_not_below-requires-then-is_after
 first_not_below-requires-then-is_after g c =

@@ -1,9 +1,8 @@
-use Rattle.std.proofs.Common.{◌≡◌, ◌+◌, ◌<◌, ◌≤◌, ℕ, nat_lt, if◌then◌else◌, sym, ◌∙◌, arith, rules}
+use Rattle.btree_item.proofs.Common.{◌≡◌, ◌+◌, ◌<◌, ◌≤◌, ℕ, sym, ◌∙◌, arith, rules, length-map, common_steps}
+use Rattle.std.proofs.Common.{nat_lt, if◌then◌else◌}
 use Rattle.std.proofs.lemmas.Bool.{le-ltb, lt-ltb}
 use Rattle.btree_item.proofs.KeyLemmas.{count_below-first, key_place-here, key_place-between, key_place-end}
-use Rattle.std.proofs.lemmas.List.{length-map}
 use Rattle.btree_item.proofs.searches.search_counted.Goals as goal
-use Rattle.std.proofs.lemmas.Grind.{common_steps}
 
 -- past the last key there is no comparison for equality, and else there is one
 past : (old new n len place : ℕ) → new ≡ old + n → len ≤ place → new ≡ old + (n + (if nat_lt place len then 1 else 0))

@@ -1,5 +1,4 @@
-use Rattle.std.proofs.Common.{◌≡◌, ◌+◌, ◌<◌, length, set, suc, ◌∙◌, ap, take, arith}
-use Rattle.std.specs.List.{insert}
+use Rattle.btree_item.proofs.Common.{◌≡◌, ◌+◌, ◌<◌, length, set, suc, ◌∙◌, ap, take, arith, insert}
 use Rattle.btree_item.proofs.StoreLemmas.{carried-right, length-stored, read-at, stored}
 use Rattle.btree_item.proofs.slots.insert_slot.Goals as goal
 

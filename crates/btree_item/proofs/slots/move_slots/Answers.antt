@@ -1,5 +1,4 @@
-use Rattle.std.proofs.Common.{◌≡◌, ◌+◌, ◌<◌, ◌++◌, suc, length, take, drop, set, ap, ◌∙◌, arith}
-use Rattle.std.specs.List.{refill}
+use Rattle.btree_item.proofs.Common.{◌≡◌, ◌+◌, ◌<◌, ◌++◌, suc, length, take, drop, set, ap, ◌∙◌, arith, refill}
 use Rattle.btree_item.proofs.StoreLemmas.{length-stored, moved-next, read-at, stored, stored-after-from}
 use Rattle.btree_item.proofs.slots.move_slots.Goals as goal
 

@@ -1,5 +1,4 @@
-use Rattle.std.proofs.Common.{◌≡◌, ℕ, ◌-◌, ◌<◌, ◌≤◌, List, suc, length, take, set, get_or, sym, ap, ◌∙◌, arith}
-use Rattle.std.specs.List.{insert, refill}
+use Rattle.btree_item.proofs.Common.{◌≡◌, ℕ, ◌-◌, ◌<◌, ◌≤◌, List, suc, length, take, set, get_or, sym, ap, ◌∙◌, arith, insert, refill}
 use Rattle.btree_item.proofs.StoreLemmas.{carried-left, inserted-last, length-stored, read-at, removed-others, removed-there, stored, stored-after}
 use Rattle.btree_item.proofs.slots.remove_slot.Goals as goal
 

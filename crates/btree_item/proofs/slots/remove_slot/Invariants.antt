@@ -1,5 +1,4 @@
-use Rattle.std.proofs.Common.{◌≡◌, ◌-◌, ◌<◌, ◌≤◌, length, take}
-use Rattle.std.specs.List.{insert}
+use Rattle.btree_item.proofs.Common.{◌≡◌, ◌-◌, ◌<◌, ◌≤◌, length, take, insert}
 use Rattle.btree_item.proofs.slots.remove_slot.Given as goal
 
 abbrev pub invariant-loop-i : goal.invariant-loop-i

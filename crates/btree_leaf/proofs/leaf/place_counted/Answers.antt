@@ -1,4 +1,5 @@
-use Rattle.std.proofs.Common.{◌+◌, ◌∙◌, ap, length}
+use Rattle.btree_leaf.proofs.Common.{◌∙◌, ap, length}
+use Rattle.std.proofs.Common.{◌+◌}
 use Rattle.btree_item.specs.Comparisons.{comparisons}
 use Rattle.btree_item.proofs.PairLemmas.{count_below-keys_of, key_place-keys_of, slice_get-from_place, found-from_place}
 use Rattle.btree_leaf.proofs.leaf.place_counted.Goals as goal

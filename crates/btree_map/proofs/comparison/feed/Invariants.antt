@@ -1,4 +1,4 @@
-use Rattle.std.proofs.Common.{◌≡◌, length}
+use Rattle.btree_map.proofs.Common.{◌≡◌, length}
 use Rattle.std.specs.List.{fold}
 use Rattle.btree_map.specs.Comparison.{hash_writes}
 use Rattle.btree_map.proofs.comparison.feed.Given as goal

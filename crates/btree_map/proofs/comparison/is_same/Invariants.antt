@@ -1,4 +1,4 @@
-use Rattle.std.proofs.Common.{◌≡◌, length}
+use Rattle.btree_map.proofs.Common.{◌≡◌, length}
 use Rattle.std.specs.Cmp.Lexicographic.{pointwise}
 use Rattle.btree_map.specs.Comparison.{pair_eq}
 use Rattle.btree_map.proofs.comparison.is_same.Given as goal

@@ -1,4 +1,4 @@
-use Rattle.std.proofs.Common.{◌≡◌, length}
+use Rattle.btree_map.proofs.Common.{◌≡◌, length}
 use Rattle.std.specs.Cmp.Lexicographic.{slice_partial_cmp}
 use Rattle.btree_map.specs.Comparison.{pair_partial_cmp}
 use Rattle.btree_map.proofs.comparison.lexicographic_partial_cmp.Given as goal

@@ -1,4 +1,4 @@
-use Rattle.std.proofs.Common.{◌∙◌, ap, refl, slice_get}
+use Rattle.btree_map.proofs.Common.{◌∙◌, ap, refl, slice_get}
 use Rattle.btree_laws.specs.TreeAddresses.{leaf_backs_of}
 use Rattle.btree_map.proofs.AscendingLemmas.{above-absent, above-end, end-inserted, end-last}
 use Rattle.btree_map.proofs.extension.insert_in_order.Goals as goal

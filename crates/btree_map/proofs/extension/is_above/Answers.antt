@@ -1,5 +1,4 @@
-use Rattle.std.proofs.Common.{IfSome, subst}
-use Rattle.btree_map.specs.Ascending.{IsLastPair}
+use Rattle.btree_map.proofs.Common.{IfSome, subst, IsLastPair}
 use Rattle.btree_map.proofs.AscendingLemmas.{goes-last}
 use Rattle.btree_map.proofs.extension.is_above.Goals as goal
 

@@ -1,7 +1,4 @@
-use Rattle.std.proofs.Common.{◌≡◌, ◌∙◌, true, subst, sym}
-use Rattle.std.specs.Ordering.{is_gt}
-use Rattle.btree_laws.specs.TreeState.{TreeState, IsBTree, pairs_of}
-use Rattle.btree_laws.proofs.LookUp.KeyInList.{rises}
+use Rattle.btree_map.proofs.Common.{◌≡◌, ◌∙◌, true, subst, sym, is_gt, TreeState, IsBTree, pairs_of, rises}
 use Rattle.btree_map.proofs.QueryLemmas.{between-keys, greater, none-between, none-from, none-to}
 use Rattle.btree_map.proofs.queries.bounds_by.Goals as goal
 

@@ -1,4 +1,4 @@
-use Rattle.btree_laws.specs.TreeState.{pairs_of}
+use Rattle.btree_map.proofs.Common.{pairs_of}
 use Rattle.btree_map.proofs.QueryLemmas.{none-beside, none-first}
 use Rattle.btree_map.proofs.queries.no_bounds.Goals as goal
 

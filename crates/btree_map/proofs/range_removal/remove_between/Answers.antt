@@ -1,11 +1,5 @@
-use Rattle.std.proofs.Common.{◌≡◌, ◌∙◌, ◌++◌, ◌∷◌, ◌≤◌, [], ap, arith, false, refl, subst, sym}
+use Rattle.btree_map.proofs.Common.{◌≡◌, ◌∙◌, ◌++◌, ◌∷◌, ◌≤◌, [], ap, arith, false, refl, subst, sym, is_past_end, pairs_of, rises, bound_key, entry_front, left_of, passed_of, AddsNoNode}
 use Rattle.std.proofs.lemmas.List.{take-append-drop}
-use Rattle.std.specs.BTreeMap.Range.{is_past_end}
-use Rattle.btree_laws.specs.TreeState.{pairs_of}
-use Rattle.btree_laws.proofs.LookUp.KeyInList.{rises}
-use Rattle.btree_walk.specs.Bounds.{bound_key}
-use Rattle.btree_map.specs.Editing.{entry_front, left_of, passed_of}
-use Rattle.btree_map.specs.Removal.{AddsNoNode}
 use Rattle.btree_map.proofs.OutsideLemmas.{append-one, left-over, next-gone, none-between, not-empty}
 use Rattle.btree_map.proofs.range_removal.remove_between.Goals as goal
 

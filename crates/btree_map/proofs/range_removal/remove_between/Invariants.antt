@@ -1,9 +1,4 @@
-use Rattle.std.proofs.Common.{◌≡◌, ◌++◌, List, [], false, length}
-use Rattle.std.specs.BTreeMap.Range.{is_past_end}
-use Rattle.std.specs.List.{AllByRecursion}
-use Rattle.btree_walk.specs.Bounds.{bound_key}
-use Rattle.btree_map.specs.Editing.{left_of, passed_of}
-use Rattle.btree_map.specs.Removal.{AddsNoNode}
+use Rattle.btree_map.proofs.Common.{◌≡◌, ◌++◌, List, [], false, length, is_past_end, AllByRecursion, bound_key, left_of, passed_of, AddsNoNode}
 use Rattle.btree_map.proofs.range_removal.remove_between.Given as goal
 
 abbrev pub invariant-rest : goal.invariant-rest

@@ -1,7 +1,5 @@
-use Rattle.std.proofs.Common.{◌≡◌, ◌∙◌, ap, sym, false}
-use Rattle.std.specs.BTreeMap.Range.{is_past_end}
-use Rattle.btree_walk.specs.Bounds.{bound_key}
-use Rattle.btree_map.specs.Editing.{RemovesEntry, left_of}
+use Rattle.btree_map.proofs.Common.{◌≡◌, ◌∙◌, ap, sym, false, is_past_end, bound_key, left_of}
+use Rattle.btree_map.specs.Editing.{RemovesEntry}
 use Rattle.btree_map.proofs.OutsideLemmas.{removes-first}
 use Rattle.btree_map.proofs.range_removal.remove_next.Goals as goal
 

@@ -1,7 +1,4 @@
-use Rattle.std.proofs.Common.{◌∙◌, sym}
-use Rattle.std.specs.declared.ops.Bound.TheVariants.{Included}
-use Rattle.btree_laws.specs.TreeState.{pairs_of}
-use Rattle.btree_laws.proofs.LookUp.KeyInList.{rises}
+use Rattle.btree_map.proofs.Common.{◌∙◌, sym, Included, pairs_of, rises}
 use Rattle.btree_map.proofs.SplitLemmas.{all-before, below-before, match-some}
 use Rattle.btree_map.proofs.splitting.pop_from.Goals as goal
 

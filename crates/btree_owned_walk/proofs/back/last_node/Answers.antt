@@ -1,7 +1,4 @@
-use Rattle.std.proofs.Common.{ap, sym, subst, option_map, refl, arith, slice_get, ◌∙◌}
-use Rattle.btree_node.specs.Node.{view_of}
-use Rattle.btree_view.specs.View.{children_of}
-use Rattle.btree_laws.specs.TreeState.{node_map}
+use Rattle.btree_owned_walk.proofs.Common.{ap, sym, subst, option_map, refl, arith, slice_get, ◌∙◌, view_of, children_of, node_map}
 use Rattle.btree_owned_walk.proofs.StepLemmas.{false-true, used-of, view-unused, view-used}
 use Rattle.btree_owned_walk.proofs.BackLemmas.{GoesToLast, goes-back-on, goes-back-start, goes-back-used, last-gone, last-leaf}
 use Rattle.btree_owned_walk.proofs.back.last_node.Goals as goal

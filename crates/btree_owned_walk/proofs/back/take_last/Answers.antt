@@ -1,7 +1,4 @@
-use Rattle.std.proofs.Common.{sym, subst, ◌∙◌}
-use Rattle.btree_laws.specs.TreeState.{node_map}
-use Rattle.btree_raw.specs.Raw.{with_node}
-use Rattle.btree_owned_walk.specs.Ends.{StandsAtBack, TakesLast}
+use Rattle.btree_owned_walk.proofs.Common.{sym, subst, ◌∙◌, node_map, with_node, StandsAtBack, TakesLast}
 use Rattle.btree_owned_walk.proofs.LeafLemmas.{keeps-node, leaf-has-last, unwritten}
 use Rattle.btree_owned_walk.proofs.BackLemmas.{goes-back-start, goes-back-used, last-climbs, last-room, last-taken}
 use Rattle.btree_owned_walk.proofs.StepLemmas.{used-of}

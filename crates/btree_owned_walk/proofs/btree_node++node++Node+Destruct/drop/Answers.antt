@@ -1,4 +1,5 @@
-use Rattle.std.proofs.Common.{arith, rules}
+use Rattle.btree_owned_walk.proofs.Common.{arith}
+use Rattle.std.proofs.Common.{rules}
 use Rattle.btree_owned_walk.proofs.btree_node++node++Node+Destruct.drop.Goals as goal
 
 pub drop-requires : goal.drop-requires

@@ -1,6 +1,4 @@
-use Rattle.std.proofs.Common.{ap, sym, subst, option_map, refl, arith, ◌∙◌}
-use Rattle.btree_node.specs.Node.{view_of}
-use Rattle.btree_laws.specs.TreeState.{node_map}
+use Rattle.btree_owned_walk.proofs.Common.{ap, sym, subst, option_map, refl, arith, ◌∙◌, view_of, node_map}
 use Rattle.btree_owned_walk.proofs.StepLemmas.{GoesToFirst, bare-gone, false-true, goes-on, goes-start, goes-used, used-of, view-unused, view-used}
 use Rattle.btree_owned_walk.proofs.front.first_node.Goals as goal
 

@@ -1,5 +1,4 @@
-use Rattle.std.proofs.Common.{◌-◌}
-use Rattle.btree_laws.specs.TreeState.{node_map}
+use Rattle.btree_owned_walk.proofs.Common.{◌-◌, node_map}
 use Rattle.btree_owned_walk.proofs.StepLemmas.{GoesToFirst}
 use Rattle.btree_owned_walk.proofs.front.first_node.Given as goal
 

@@ -1,7 +1,4 @@
-use Rattle.std.proofs.Common.{sym, subst, ◌∙◌}
-use Rattle.btree_laws.specs.TreeState.{node_map}
-use Rattle.btree_raw.specs.Raw.{with_node}
-use Rattle.btree_owned_walk.specs.Ends.{StandsAtFront, TakesFirst}
+use Rattle.btree_owned_walk.proofs.Common.{sym, subst, ◌∙◌, node_map, with_node, StandsAtFront, TakesFirst}
 use Rattle.btree_owned_walk.proofs.LeafLemmas.{keeps-node, leaf-has-first, unwritten}
 use Rattle.btree_owned_walk.proofs.StepLemmas.{first-climbs, first-room, first-taken, goes-start, goes-used, used-of}
 use Rattle.btree_owned_walk.proofs.front.take_first.Goals as goal

@@ -1,5 +1,4 @@
-use Rattle.btree_laws.specs.TreeState.{node_map}
-use Rattle.btree_raw.specs.Raw.{with_node}
+use Rattle.btree_owned_walk.proofs.Common.{node_map, with_node}
 use Rattle.btree_owned_walk.proofs.LeafLemmas.{keeps-node}
 use Rattle.btree_owned_walk.proofs.StepLemmas.{first-climbs, first-room, first-taken, used-of}
 use Rattle.btree_owned_walk.proofs.front.take_first_below.Goals as goal

@@ -1,6 +1,4 @@
-use Rattle.std.proofs.Common.{ap, sym, option_map, refl, ◌∙◌}
-use Rattle.btree_node.specs.Node.{view_of}
-use Rattle.btree_laws.specs.TreeState.{node_map}
+use Rattle.btree_owned_walk.proofs.Common.{ap, sym, option_map, refl, ◌∙◌, view_of, node_map}
 use Rattle.btree_owned_walk.proofs.StepLemmas.{bare-gone, bare-leaf, is-spent, false-true, spent-child, spent-count, view-unused, view-used}
 use Rattle.btree_owned_walk.proofs.spent.is_spent.Goals as goal
 

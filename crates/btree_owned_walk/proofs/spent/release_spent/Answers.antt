@@ -1,6 +1,5 @@
-use Rattle.std.proofs.Common.{refl}
+use Rattle.btree_owned_walk.proofs.Common.{refl, node_map}
 use Rattle.std.specs.FinMap as map
-use Rattle.btree_laws.specs.TreeState.{node_map}
 use Rattle.btree_raw.proofs.StateLemmas.{then}
 use Rattle.btree_owned_walk.proofs.StepLemmas.{false-true, keeps-nodes, releasing-start, releasing-stops, releasing-there, releasing-used, removal-ends, removal-up, removed-less}
 use Rattle.btree_owned_walk.proofs.spent.release_spent.Goals as goal

@@ -1,5 +1,6 @@
 use Rattle.std.specs.FinMap as map
-use Rattle.btree_laws.specs.TreeState.{KeepsRest, node_map}
+use Rattle.btree_owned_walk.proofs.Common.{node_map}
+use Rattle.btree_laws.specs.TreeState.{KeepsRest}
 use Rattle.btree_owned_walk.proofs.StepLemmas.{IsReleasing}
 use Rattle.btree_owned_walk.proofs.spent.release_spent.Given as goal
 

@@ -1,6 +1,4 @@
-use Rattle.std.proofs.Common.{arith}
-use Rattle.btree_laws.specs.TreeState.{pairs_of}
-use Rattle.btree_range_set.specs.Places.{EndsBefore, StartsAfter}
+use Rattle.btree_range_set.proofs.Common.{arith, pairs_of, EndsBefore, StartsAfter}
 use Rattle.btree_range_set.proofs.JoinLemmas.{join-after, join-before, join-found, joined-wider, put-done}
 use Rattle.btree_range_set.proofs.PlaceLemmas.{ends-none, ends-some, starts-none, starts-some}
 use Rattle.btree_range_set.proofs.RunLemmas.{joins-none}

@@ -1,4 +1,4 @@
-use Rattle.std.proofs.Common.{subst, arith}
+use Rattle.btree_range_set.proofs.Common.{subst, arith}
 use Rattle.btree_range_set.proofs.ClearLemmas.{IsClearing, clearing-fits, clearing-last, clearing-more, clearing-none, clearing-past, clearing-shorter}
 use Rattle.btree_range_set.proofs.edits.clear_from.Goals as goal
 

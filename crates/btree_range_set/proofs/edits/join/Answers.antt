@@ -1,4 +1,4 @@
-use Rattle.std.proofs.Common.{refl}
+use Rattle.btree_range_set.proofs.Common.{refl}
 use Rattle.btree_range_set.proofs.JoinLemmas.{joining-done, joining-fits, joining-more}
 use Rattle.btree_range_set.proofs.edits.join.Goals as goal
 

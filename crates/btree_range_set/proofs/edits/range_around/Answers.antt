@@ -1,4 +1,4 @@
-use Rattle.std.proofs.Common.{arith}
+use Rattle.btree_range_set.proofs.Common.{arith}
 use Rattle.btree_range_set.proofs.PlaceLemmas.{around-before, around-found, around-none, ends-none, ends-some}
 use Rattle.btree_range_set.proofs.edits.range_around.Goals as goal
 

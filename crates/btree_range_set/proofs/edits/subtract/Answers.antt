@@ -1,6 +1,4 @@
-use Rattle.std.proofs.Common.{suc, arith}
-use Rattle.btree_laws.specs.TreeState.{pairs_of}
-use Rattle.btree_range_set.specs.Places.{EndsBefore}
+use Rattle.btree_range_set.proofs.Common.{suc, arith, pairs_of, EndsBefore}
 use Rattle.btree_range_set.proofs.ClearLemmas.{clear-found, clear-gap}
 use Rattle.btree_range_set.proofs.CutLemmas.{cut-can, shorten-can, shorten-then}
 use Rattle.btree_range_set.proofs.PlaceLemmas.{before-read, cuts-one, ends-none, ends-some}

@@ -1,4 +1,4 @@
-use Rattle.std.proofs.Common.{◌∙◌, refl, arith}
+use Rattle.btree_range_set.proofs.Common.{◌∙◌, refl, arith}
 use Rattle.btree_range_set.proofs.GapLemmas.{at-end, gap-given, gap-last, gap-none, gap-skipped}
 use Rattle.btree_range_set.proofs.gaps.next_gap.Goals as goal
 

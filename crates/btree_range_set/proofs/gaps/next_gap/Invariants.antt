@@ -1,4 +1,4 @@
-use Rattle.std.proofs.Common.{◌≡◌}
+use Rattle.btree_range_set.proofs.Common.{◌≡◌}
 use Rattle.btree_range_set.specs.Gaps.{gaps_from}
 use Rattle.btree_range_set.proofs.gaps.next_gap.Given as goal
 

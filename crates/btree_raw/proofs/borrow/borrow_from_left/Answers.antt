@@ -1,4 +1,4 @@
-use Rattle.btree_laws.specs.TreeState.{node_map}
+use Rattle.btree_raw.proofs.Common.{node_map}
 use Rattle.btree_raw.proofs.BorrowLemmas.{can-right, borrowed-right, right-back, index-few}
 use Rattle.btree_raw.proofs.OffsetLemmas.{offset-next}
 use Rattle.btree_raw.proofs.borrow.borrow_from_left.Goals as goal

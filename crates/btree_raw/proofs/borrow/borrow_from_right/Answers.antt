@@ -1,5 +1,4 @@
-use Rattle.std.proofs.Common.{arith}
-use Rattle.btree_laws.specs.TreeState.{node_map}
+use Rattle.btree_raw.proofs.Common.{arith, node_map}
 use Rattle.btree_raw.proofs.BorrowLemmas.{can-left, borrowed-left, left-back, index-few, count-low}
 use Rattle.btree_raw.proofs.borrow.borrow_from_right.Goals as goal
 

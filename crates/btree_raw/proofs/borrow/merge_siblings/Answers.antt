@@ -1,5 +1,4 @@
-use Rattle.std.proofs.Common.{arith}
-use Rattle.btree_laws.specs.TreeState.{node_map}
+use Rattle.btree_raw.proofs.Common.{arith, node_map}
 use Rattle.btree_raw.proofs.BorrowLemmas.{can-merge, joined-both, joined-back, count-low, offset-far}
 use Rattle.btree_raw.proofs.borrow.merge_siblings.Goals as goal
 

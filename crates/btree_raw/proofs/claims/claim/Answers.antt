@@ -1,7 +1,6 @@
-use Rattle.std.proofs.Common.{◌∷◌, [], arith, length-append, rules, subst}
+use Rattle.btree_raw.proofs.Common.{◌∷◌, [], arith, length-append, rules, subst, common_steps}
 use Rattle.btree_raw.proofs.RefuseLemmas.{more-claims, refused-claims}
 use Rattle.btree_raw.proofs.claims.claim.Goals as goal
-use Rattle.std.proofs.lemmas.Grind.{common_steps}
 
 pub release-requires : goal.release-requires
 release-requires g c = (_, refused-claims c.args.tree.now c.loop-index.tree c.claim_one.new.tree c.loop-index.claims.items c.loop-index.invariant.held c.in-None.ensures.refused)

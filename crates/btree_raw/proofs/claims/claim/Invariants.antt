@@ -1,5 +1,4 @@
-use Rattle.std.proofs.Common.{◌≡◌, length}
-use Rattle.btree_raw.specs.Claimed.{AreClaimed}
+use Rattle.btree_raw.proofs.Common.{◌≡◌, length, AreClaimed}
 use Rattle.btree_raw.proofs.claims.claim.Given as goal
 
 abbrev pub invariant-loop-index : goal.invariant-loop-index

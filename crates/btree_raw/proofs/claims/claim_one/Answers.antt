@@ -1,5 +1,5 @@
 use Rattle.btree_raw.proofs.ResultLemmas.{some-ok, none-err}
-use Rattle.std.proofs.Common.{rules}
+use Rattle.btree_raw.proofs.Common.{rules}
 use Rattle.btree_raw.proofs.claims.claim_one.Goals as goal
 
 pub tell_fits-requires : goal.tell_fits-requires

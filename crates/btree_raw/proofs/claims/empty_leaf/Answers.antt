@@ -1,5 +1,5 @@
 use Rattle.btree_node.proofs.NodeSizes.{fits-leaf}
-use Rattle.std.proofs.Common.{rules}
+use Rattle.btree_raw.proofs.Common.{rules}
 use Rattle.btree_raw.proofs.claims.empty_leaf.Goals as goal
 
 pub empty-requires : goal.empty-requires

@@ -1,7 +1,6 @@
 use Rattle.btree_raw.proofs.RefuseLemmas.{claim-used, less-claims}
 use Rattle.btree_raw.proofs.claims.release.Goals as goal
-use Rattle.std.proofs.lemmas.Grind.{common_steps}
-use Rattle.std.proofs.Common.{arith, rules}
+use Rattle.btree_raw.proofs.Common.{common_steps, arith, rules}
 
 pub release_node-requires : goal.release_node-requires
 release_node-requires g c =

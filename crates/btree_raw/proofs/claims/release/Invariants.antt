@@ -1,6 +1,4 @@
-use Rattle.std.proofs.Common.{length}
-use Rattle.btree_laws.specs.TreeState.{TreeState}
-use Rattle.btree_raw.specs.Claimed.{AreClaimed}
+use Rattle.btree_raw.proofs.Common.{length, TreeState, AreClaimed}
 use Rattle.btree_raw.proofs.claims.release.Given as goal
 
 abbrev pub invariant-loop-id : goal.invariant-loop-id

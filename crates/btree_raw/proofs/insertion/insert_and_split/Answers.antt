@@ -1,10 +1,8 @@
-use Rattle.std.proofs.Common.{◌∙◌, arith, refl, sym, rules}
+use Rattle.btree_raw.proofs.Common.{◌∙◌, arith, refl, sym, rules, view, common_steps}
 use Rattle.btree_raw.proofs.ClaimLemmas.{claims-low}
 use Rattle.btree_raw.proofs.PutLemmas.{can-add-claimed, old-counting, put-refused, put-splitting, split-inserted}
 use Rattle.btree_raw.proofs.StateLemmas.{same-len}
-use Rattle.btree_item.specs.declared.address.Address.TheView.{view}
 use Rattle.btree_raw.proofs.insertion.insert_and_split.Goals as goal
-use Rattle.std.proofs.lemmas.Grind.{common_steps}
 
 pub tell_fits-requires : goal.tell_fits-requires
 tell_fits-requires g c κs =

@@ -1,16 +1,10 @@
-use Rattle.std.proofs.Common.{arith, ap, option_map, refl, sym, subst, rules}
+use Rattle.btree_raw.proofs.Common.{arith, ap, option_map, refl, sym, subst, rules, view_of, TreeState, node_map, InsertsExactly, IsFull, IsOffByOneWith, IsRefused, with_node, HasParent, view}
 use Rattle.std.specs.Prelude.{IfErr, IfOk}
-use Rattle.btree_node.specs.Node.{view_of}
-use Rattle.btree_laws.specs.TreeState.{TreeState, node_map}
 use Rattle.btree_raw.proofs.NeedLemmas.{is-full, not-full}
 use Rattle.btree_raw.proofs.PutLemmas.{add-used, can-add, no-overflow, put-inserted, put-off, put-room, put-valid, room-at, these}
-use Rattle.btree_raw.specs.Insertion.{InsertsExactly, IsFull, IsOffByOneWith, IsRefused}
-use Rattle.btree_raw.specs.Raw.{with_node}
-use Rattle.btree_raw.specs.Steps.{HasParent}
 use Rattle.btree_raw.proofs.FetchedLemmas.{count-written, parent-there, parent-written}
 use Rattle.btree_raw.proofs.LastLemmas.{same-state}
 use Rattle.btree_raw.proofs.StepLemmas.{adds, take-room}
-use Rattle.btree_item.specs.declared.address.Address.TheView.{view}
 use Rattle.btree_raw.proofs.insertion.insert_in_tree.Goals as goal
 
 pub tell_fits-requires : goal.tell_fits-requires

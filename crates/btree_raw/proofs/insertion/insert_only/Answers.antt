@@ -1,10 +1,8 @@
-use Rattle.std.proofs.Common.{refl, arith, rules}
+use Rattle.btree_raw.proofs.Common.{refl, arith, rules, EMPTY, common_steps}
 use Rattle.btree_store.specs.ContentLaws.{get-insert_same}
-use Rattle.btree_raw.specs.Claimed.{EMPTY}
 use Rattle.btree_raw.proofs.OnlyLemmas.{len-of, only-inserted, only-refused}
 use Rattle.btree_raw.proofs.StateLemmas.{same-len}
 use Rattle.btree_raw.proofs.insertion.insert_only.Goals as goal
-use Rattle.std.proofs.lemmas.Grind.{common_steps}
 
 pub tell_fits-requires : goal.tell_fits-requires
 tell_fits-requires g c κs =

@@ -1,4 +1,4 @@
-use Rattle.std.proofs.Common.{◌∙◌, rules}
+use Rattle.btree_raw.proofs.Common.{◌∙◌, rules}
 use Rattle.btree_raw.proofs.NeedLemmas.{need-split_need, need-counting}
 use Rattle.btree_raw.proofs.need.need.Goals as goal
 

@@ -1,6 +1,5 @@
-use Rattle.std.proofs.Common.{ap, option_map}
+use Rattle.btree_raw.proofs.Common.{ap, option_map, view_of}
 use Rattle.std.specs.FinMap as map
-use Rattle.btree_node.specs.Node.{view_of}
 use Rattle.btree_raw.proofs.CountLemmas.{count-all, count-there}
 use Rattle.btree_raw.proofs.FetchedLemmas.{parent-there}
 use Rattle.btree_raw.proofs.NeedLemmas.{is-full, not-full}

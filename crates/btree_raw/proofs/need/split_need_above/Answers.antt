@@ -1,7 +1,5 @@
-use Rattle.std.proofs.Common.{◌∙◌, ◌+◌, ap, arith, option_map}
+use Rattle.btree_raw.proofs.Common.{◌∙◌, ◌+◌, ap, arith, option_map, view_of, node_map}
 use Rattle.std.specs.FinMap as map
-use Rattle.btree_node.specs.Node.{view_of}
-use Rattle.btree_laws.specs.TreeState.{node_map}
 use Rattle.btree_raw.proofs.CountLemmas.{count-there, count-all, count-top, count-next, count-smaller, count-fits}
 use Rattle.btree_raw.proofs.FetchedLemmas.{parent-named, parent-there}
 use Rattle.btree_raw.proofs.NeedLemmas.{is-full, not-full}

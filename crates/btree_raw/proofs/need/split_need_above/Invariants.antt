@@ -1,8 +1,5 @@
 use Rattle.std.specs.FinMap as map
-use Rattle.btree_laws.specs.Need.{levels_above}
-use Rattle.btree_laws.specs.TreeState.{node_map}
-use Rattle.btree_raw.specs.Insertion.{IsFull}
-use Rattle.btree_raw.specs.Steps.{HasParent, IsCountingSplits}
+use Rattle.btree_raw.proofs.Common.{levels_above, node_map, IsFull, HasParent, IsCountingSplits}
 use Rattle.btree_raw.proofs.need.split_need_above.Given as goal
 
 abbrev pub invariant-loop-above : goal.invariant-loop-above

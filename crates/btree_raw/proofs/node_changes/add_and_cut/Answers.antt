@@ -1,10 +1,4 @@
-use Rattle.std.proofs.Common.{refl, ap}
-use Rattle.btree_node.specs.Node.{view_of}
-use Rattle.btree_view.specs.Edits.{is_internal}
-use Rattle.btree_view.specs.View.{items_of}
-use Rattle.btree_laws.specs.TreeState.{Changes, node_map}
-use Rattle.btree_raw.specs.Raw.{with_node}
-use Rattle.btree_raw.specs.Steps.{AddsItem}
+use Rattle.btree_raw.proofs.Common.{refl, ap, view_of, is_internal, items_of, Changes, node_map, with_node, AddsItem}
 use Rattle.btree_raw.proofs.CutLemmas.{cuts-node, here-after, over-after, part-after, stays-after}
 use Rattle.btree_raw.proofs.StateLemmas.{then, used-here}
 use Rattle.btree_raw.proofs.StepLemmas.{adds, take-room}

@@ -1,5 +1,4 @@
-use Rattle.std.proofs.Common.{None, ap, option_map, refl, sym}
-use Rattle.btree_node.specs.Node.{view_of}
+use Rattle.btree_raw.proofs.Common.{None, ap, option_map, refl, sym, view_of}
 use Rattle.btree_raw.proofs.FetchedLemmas.{parent-there}
 use Rattle.btree_raw.proofs.LastLemmas.{same-state}
 use Rattle.btree_raw.proofs.NeedLemmas.{is-full, not-full, room-no_split}

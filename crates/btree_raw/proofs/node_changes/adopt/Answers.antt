@@ -1,9 +1,4 @@
-use Rattle.std.proofs.Common.{arith, subst}
-use Rattle.btree_node.specs.Node.{view_of}
-use Rattle.btree_view.specs.View.{children_of}
-use Rattle.btree_laws.specs.Step.{Reparents}
-use Rattle.btree_laws.specs.TreeState.{Changes, node_map}
-use Rattle.btree_laws.proofs.Trees.Stores.{used-view}
+use Rattle.btree_raw.proofs.Common.{arith, subst, view_of, children_of, Reparents, Changes, node_map, used-view}
 use Rattle.btree_raw.proofs.ParentLemmas.{reparented-used, reparents-more, take-all}
 use Rattle.btree_raw.proofs.StateLemmas.{then}
 use Rattle.btree_raw.proofs.node_changes.adopt.Goals as goal

@@ -1,8 +1,4 @@
-use Rattle.std.proofs.Common.{refl, ap}
-use Rattle.btree_node.specs.Node.{view_of}
-use Rattle.btree_view.specs.Edits.{is_internal}
-use Rattle.btree_view.specs.View.{items_of}
-use Rattle.btree_laws.specs.TreeState.{node_map}
+use Rattle.btree_raw.proofs.Common.{refl, ap, view_of, is_internal, items_of, node_map}
 use Rattle.btree_raw.proofs.CutLemmas.{cuts-node, here-there, over-there, part-there, stays-there}
 use Rattle.btree_raw.proofs.StateLemmas.{then}
 use Rattle.btree_raw.proofs.UpwardLemmas.{is-over, not-over}

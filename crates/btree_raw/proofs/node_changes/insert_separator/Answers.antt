@@ -1,11 +1,5 @@
-use Rattle.std.proofs.Common.{Some, refl, sym, ap}
+use Rattle.btree_raw.proofs.Common.{Some, refl, sym, ap, view_of, is_internal, items_of, Changes, node_map, with_node, AddsSeparator}
 use Rattle.std.specs.FinMap as map
-use Rattle.btree_node.specs.Node.{view_of}
-use Rattle.btree_view.specs.Edits.{is_internal}
-use Rattle.btree_view.specs.View.{items_of}
-use Rattle.btree_laws.specs.TreeState.{Changes, node_map}
-use Rattle.btree_raw.specs.Raw.{with_node}
-use Rattle.btree_raw.specs.OverflowSplit.{AddsSeparator}
 use Rattle.btree_raw.proofs.CutLemmas.{cuts-node, here-after, over-after, part-after, stays-after}
 use Rattle.btree_raw.proofs.SeparatorLemmas.{above-used, child-there, index-few, can-add, inserts}
 use Rattle.btree_raw.proofs.StateLemmas.{then}

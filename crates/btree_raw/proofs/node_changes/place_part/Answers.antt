@@ -1,6 +1,4 @@
-use Rattle.btree_node.specs.Node.{view_of}
-use Rattle.btree_laws.specs.TreeState.{node_map}
-use Rattle.btree_laws.proofs.Trees.Stores.{used-view}
+use Rattle.btree_raw.proofs.Common.{view_of, node_map, used-view}
 use Rattle.btree_raw.proofs.OverflowLemmas.{adopts-part, leaves, right-used, splits}
 use Rattle.btree_raw.proofs.StateLemmas.{then}
 use Rattle.btree_raw.proofs.node_changes.place_part.Goals as goal

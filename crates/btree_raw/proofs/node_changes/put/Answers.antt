@@ -1,6 +1,5 @@
-use Rattle.std.proofs.Common.{refl, ap, rules}
+use Rattle.btree_raw.proofs.Common.{refl, ap, rules, writes_node}
 use Rattle.std.specs.FinMap as map
-use Rattle.btree_laws.proofs.Trees.Stores.{writes_node}
 use Rattle.btree_raw.proofs.node_changes.put.Goals as goal
 
 pub returns : goal.returns

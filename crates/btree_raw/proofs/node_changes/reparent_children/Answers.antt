@@ -1,9 +1,7 @@
-use Rattle.btree_laws.proofs.Trees.Stores.{used-view}
+use Rattle.btree_raw.proofs.Common.{used-view, common_steps, arith, rules}
 use Rattle.btree_raw.proofs.ParentLemmas.{still-used, index-below, child-used, child-reparented}
 use Rattle.btree_raw.proofs.StateLemmas.{then}
 use Rattle.btree_raw.proofs.node_changes.reparent_children.Goals as goal
-use Rattle.std.proofs.lemmas.Grind.{common_steps}
-use Rattle.std.proofs.Common.{arith, rules}
 
 pub node-requires : goal.node-requires
 node-requires g c = (c.tell_fits.ensures, used-view c.args.tree.now.nodes c.args.id c.requires.used)

@@ -1,7 +1,4 @@
-use Rattle.std.proofs.Common.{take}
-use Rattle.btree_view.specs.View.{children_in}
-use Rattle.btree_laws.specs.Step.{Reparents}
-use Rattle.btree_laws.specs.TreeState.{Changes, node_map}
+use Rattle.btree_raw.proofs.Common.{take, children_in, Reparents, Changes, node_map}
 use Rattle.btree_raw.proofs.node_changes.reparent_children.Given as goal
 
 abbrev pub invariant-loop-index : goal.invariant-loop-index

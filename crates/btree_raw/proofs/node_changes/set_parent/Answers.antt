@@ -1,9 +1,5 @@
-use Rattle.std.proofs.Common.{◌≡◌, ◌-◌, ◌^◌, ◌∙◌, Some, ap, arith, option_map, refl, rules, sym}
+use Rattle.btree_raw.proofs.Common.{◌≡◌, ◌-◌, ◌^◌, ◌∙◌, Some, ap, arith, option_map, refl, rules, sym, view_of, with_parent, other-test, writes_node}
 use Rattle.std.specs.FinMap as map
-use Rattle.btree_node.specs.Node.{view_of}
-use Rattle.btree_view.specs.Edits.{with_parent}
-use Rattle.btree_laws.proofs.Places.Untouched.{other-test}
-use Rattle.btree_laws.proofs.Trees.Stores.{writes_node}
 use Rattle.btree_raw.proofs.SingleNodeLemmas.{here-at}
 use Rattle.btree_raw.proofs.node_changes.set_parent.Goals as goal
 

@@ -1,6 +1,5 @@
-use Rattle.std.proofs.Common.{◌∙◌, refl, sym}
+use Rattle.btree_raw.proofs.Common.{◌∙◌, refl, sym, view}
 use Rattle.btree_raw.proofs.WithinLemmas.{bottom-within, node-within, not-within}
-use Rattle.btree_item.specs.declared.address.Address.TheView.{view}
 use Rattle.btree_raw.proofs.raw.is_within.Goals as goal
 
 pub returns-then-not-has_node : goal.returns-then-not-has_node

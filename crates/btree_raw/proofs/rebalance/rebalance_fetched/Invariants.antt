@@ -1,5 +1,4 @@
-use Rattle.std.proofs.Common.{length}
-use Rattle.btree_laws.specs.TreeState.{pairs_of}
+use Rattle.btree_raw.proofs.Common.{length, pairs_of}
 use Rattle.btree_raw.proofs.rebalance.rebalance_fetched.Given as goal
 
 abbrev pub ghost-fix_underflow_upward : goal.ghost-fix_underflow_upward

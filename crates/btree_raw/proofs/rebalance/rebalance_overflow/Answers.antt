@@ -1,4 +1,4 @@
-use Rattle.std.proofs.Common.{◌∙◌}
+use Rattle.btree_raw.proofs.Common.{◌∙◌}
 use Rattle.btree_raw.proofs.ClaimLemmas.{claims-low}
 use Rattle.btree_raw.proofs.RebalanceLemmas.{are-claims, counting, splitting, is-split, refusal}
 use Rattle.btree_raw.proofs.rebalance.rebalance_overflow.Goals as goal

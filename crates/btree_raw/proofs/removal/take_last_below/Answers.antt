@@ -1,5 +1,4 @@
-use Rattle.std.proofs.Common.{refl}
-use Rattle.btree_raw.specs.Raw.{with_node}
+use Rattle.btree_raw.proofs.Common.{refl, with_node}
 use Rattle.btree_raw.proofs.FetchedLemmas.{count-written, parent-written}
 use Rattle.btree_raw.proofs.LastLemmas.{goes-lower, goes-right, loses-item, right-start, some-item, still-used, takes-last}
 use Rattle.btree_raw.proofs.removal.take_last_below.Goals as goal

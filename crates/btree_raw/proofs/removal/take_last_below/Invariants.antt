@@ -1,7 +1,7 @@
 use Rattle.std.specs.Prelude.{◌≡◌}
 use Rattle.std.specs.FinMap as map
 use Rattle.btree_laws.specs.Focus.Search.{levels_below}
-use Rattle.btree_laws.specs.TreeState.{node_map}
+use Rattle.btree_raw.proofs.Common.{node_map}
 use Rattle.btree_raw.proofs.LastLemmas.{DescendsRight}
 use Rattle.btree_raw.proofs.removal.take_last_below.Given as goal
 

@@ -1,6 +1,5 @@
-use Rattle.std.proofs.Common.{◌∙◌, Some, ap, option_map, refl, sym, rules}
+use Rattle.btree_raw.proofs.Common.{◌∙◌, Some, ap, option_map, refl, sym, rules, size_of}
 use Rattle.std.specs.FinMap as map
-use Rattle.btree_view.specs.View.{size_of}
 use Rattle.btree_raw.proofs.SingleNodeLemmas.{clears-parent, here-at}
 use Rattle.btree_raw.proofs.sibling_steps.clear_parent.Goals as goal
 

@@ -1,9 +1,4 @@
-use Rattle.std.proofs.Common.{◌∙◌, ap, arith, option_map, refl, sym}
-use Rattle.btree_node.specs.Node.{view_of}
-use Rattle.btree_view.specs.View.{size_of}
-use Rattle.btree_laws.specs.Moved.{first_in}
-use Rattle.btree_laws.specs.TreeState.{node_map}
-use Rattle.btree_laws.proofs.Trees.Stores.{used-view}
+use Rattle.btree_raw.proofs.Common.{◌∙◌, ap, arith, option_map, refl, sym, view_of, size_of, first_in, node_map, used-view}
 use Rattle.btree_raw.proofs.SingleNodeLemmas.{first-at, loses}
 use Rattle.btree_raw.proofs.StateLemmas.{nodes-of, removed, then}
 use Rattle.btree_raw.proofs.SiblingLemmas.{adopts-both, between-here, low-same, merge-taker, merges, other-same, other-there, room-both}

@@ -1,6 +1,4 @@
-use Rattle.std.proofs.Common.{refl, subst}
-use Rattle.btree_laws.specs.TreeState.{node_map}
-use Rattle.btree_laws.proofs.Trees.Stores.{used-view}
+use Rattle.btree_raw.proofs.Common.{refl, subst, node_map, used-view}
 use Rattle.btree_raw.specs.NodeSteps.{IsThere}
 use Rattle.btree_raw.proofs.SingleNodeLemmas.{reparents-one, reparents-no}
 use Rattle.btree_raw.proofs.sibling_steps.move_child.Goals as goal

@@ -1,7 +1,5 @@
-use Rattle.std.proofs.Common.{◌∙◌, ap, option_map, refl, sym}
+use Rattle.btree_raw.proofs.Common.{◌∙◌, ap, option_map, refl, sym, view_of, size_of}
 use Rattle.std.specs.FinMap as map
-use Rattle.btree_node.specs.Node.{view_of}
-use Rattle.btree_view.specs.View.{size_of}
 use Rattle.btree_raw.proofs.SingleNodeLemmas.{gains-all, here-at, room-for-all}
 use Rattle.btree_raw.proofs.StateLemmas.{used-here}
 use Rattle.btree_raw.proofs.sibling_steps.put_all.Goals as goal

@@ -1,4 +1,4 @@
-use Rattle.std.proofs.Common.{refl, rules, sym}
+use Rattle.btree_raw.proofs.Common.{refl, rules, sym}
 use Rattle.std.specs.FinMap as map
 use Rattle.btree_raw.proofs.SingleNodeLemmas.{first-at, gains-first, room-for}
 use Rattle.btree_raw.proofs.StateLemmas.{used-here}

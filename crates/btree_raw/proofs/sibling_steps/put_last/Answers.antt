@@ -1,4 +1,4 @@
-use Rattle.std.proofs.Common.{refl}
+use Rattle.btree_raw.proofs.Common.{refl}
 use Rattle.std.specs.FinMap as map
 use Rattle.btree_raw.proofs.SingleNodeLemmas.{gains-last, room-for}
 use Rattle.btree_raw.proofs.StateLemmas.{used-here}

@@ -1,5 +1,4 @@
-use Rattle.btree_laws.specs.TreeState.{node_map}
-use Rattle.btree_laws.proofs.Trees.Stores.{used-view}
+use Rattle.btree_raw.proofs.Common.{node_map, used-view}
 use Rattle.btree_raw.proofs.StateLemmas.{then}
 use Rattle.btree_raw.proofs.SiblingLemmas.{left-between, left-first, left-giver, left-room, left-child, left-taker, rotates-left}
 use Rattle.btree_raw.proofs.sibling_steps.rotate_left.Goals as goal

@@ -1,7 +1,4 @@
-use Rattle.std.proofs.Common.{◌∙◌, ap, option_map, sym}
-use Rattle.btree_laws.specs.Moved.{first_in}
-use Rattle.btree_laws.specs.TreeState.{node_map}
-use Rattle.btree_laws.proofs.Trees.Stores.{used-view}
+use Rattle.btree_raw.proofs.Common.{◌∙◌, ap, option_map, sym, first_in, node_map, used-view}
 use Rattle.btree_raw.proofs.StateLemmas.{then}
 use Rattle.btree_raw.proofs.SiblingLemmas.{right-between, right-giver, right-room, right-child, right-same, right-taker, rotates-right}
 use Rattle.btree_raw.proofs.sibling_steps.rotate_right.Goals as goal

@@ -1,7 +1,4 @@
-use Rattle.std.proofs.Common.{◌∙◌, Some, ap, option_map, sym, rules}
-use Rattle.btree_view.specs.View.{size_of}
-use Rattle.btree_laws.specs.TreeState.{node_map}
-use Rattle.btree_laws.proofs.Trees.Stores.{used-view}
+use Rattle.btree_raw.proofs.Common.{◌∙◌, Some, ap, option_map, sym, rules, size_of, node_map, used-view}
 use Rattle.btree_raw.proofs.SingleNodeLemmas.{child-same, child-used, first-at, loses, shrinks_root}
 use Rattle.btree_raw.proofs.StateLemmas.{nodes-of, removed, then}
 use Rattle.btree_raw.proofs.sibling_steps.shrink_root.Goals as goal

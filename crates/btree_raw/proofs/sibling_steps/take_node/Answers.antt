@@ -1,4 +1,4 @@
-use Rattle.std.proofs.Common.{◌∙◌}
+use Rattle.btree_raw.proofs.Common.{◌∙◌}
 use Rattle.btree_store.specs.ContentLaws.{insert-used}
 use Rattle.btree_raw.proofs.StateLemmas.{remove-written}
 use Rattle.btree_raw.proofs.sibling_steps.take_node.Goals as goal

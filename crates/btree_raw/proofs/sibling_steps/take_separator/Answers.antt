@@ -1,4 +1,4 @@
-use Rattle.std.proofs.Common.{refl, arith, ◌+◌}
+use Rattle.btree_raw.proofs.Common.{refl, arith, ◌+◌}
 use Rattle.std.specs.FinMap as map
 use Rattle.btree_raw.proofs.SingleNodeLemmas.{loses-between, next-small, next-within}
 use Rattle.btree_raw.proofs.StateLemmas.{used-here}

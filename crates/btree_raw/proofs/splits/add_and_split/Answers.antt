@@ -1,4 +1,4 @@
-use Rattle.btree_laws.specs.TreeState.{node_map}
+use Rattle.btree_raw.proofs.Common.{node_map}
 use Rattle.btree_raw.proofs.UpwardLemmas.{can-cut, upward-start}
 use Rattle.btree_raw.proofs.splits.add_and_split.Goals as goal
 

@@ -1,11 +1,7 @@
-use Rattle.std.proofs.Common.{subst, arith, rules}
-use Rattle.btree_laws.specs.Step.{WritesNode}
-use Rattle.btree_laws.specs.TreeState.{node_map}
+use Rattle.btree_raw.proofs.Common.{subst, arith, rules, WritesNode, node_map, used-view, common_steps}
 use Rattle.btree_raw.proofs.OverflowLemmas.{left-there, right-still, grows-root}
 use Rattle.btree_raw.proofs.StateLemmas.{then}
 use Rattle.btree_raw.proofs.splits.grow_root.Goals as goal
-use Rattle.btree_laws.proofs.Trees.Stores.{used-view}
-use Rattle.std.proofs.lemmas.Grind.{common_steps}
 
 pub put-requires : goal.put-requires
 put-requires g c = (c.tell_fits.ensures, used-view c.args.tree.now.nodes c.args.root c.requires.can.root_used)

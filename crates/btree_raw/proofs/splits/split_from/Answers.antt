@@ -1,7 +1,4 @@
-use Rattle.std.proofs.Common.{◌≡◌, ◌∙◌, ℕ, subst, sym, arith}
-use Rattle.btree_view.specs.View.{NodeMap}
-use Rattle.btree_laws.specs.TreeState.{node_map}
-use Rattle.btree_laws.specs.WellFormed.{times_used}
+use Rattle.btree_raw.proofs.Common.{◌≡◌, ◌∙◌, ℕ, subst, sym, arith, NodeMap, node_map, times_used}
 use Rattle.btree_raw.specs.Steps.{AreSplit, MayCut}
 use Rattle.btree_raw.proofs.StateLemmas.{then, same-len, same-root, same-kept}
 use Rattle.btree_raw.proofs.UpwardLemmas.{ReachesCut, cut-length, reached-back, reached-cut, reached-grow_root, reached-next, reached-none-left, reached-number, reached-offset, reached-root, reached-root-left, reached-separator, reached-used, upward-done, upward-none-left, upward-start}

@@ -1,5 +1,5 @@
-use Rattle.std.proofs.Common.{List, ℕ, ◌+◌, is_some, if◌then◌else◌, length}
-use Rattle.btree_laws.specs.TreeState.{TreeState, KeepsRest, node_map}
+use Rattle.btree_raw.proofs.Common.{List, ℕ, ◌+◌, if◌then◌else◌, length, TreeState, KeepsRest, node_map}
+use Rattle.std.proofs.Common.{is_some}
 use Rattle.btree_raw.specs.Steps.{IsCutFrom}
 use Rattle.btree_raw.proofs.UpwardLemmas.{ReachesCut}
 use Rattle.btree_raw.proofs.splits.split_from.Given as goal

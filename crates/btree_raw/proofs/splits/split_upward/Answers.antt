@@ -1,5 +1,4 @@
-use Rattle.btree_laws.specs.TreeState.{node_map}
-use Rattle.btree_laws.proofs.Trees.Stores.{used-view}
+use Rattle.btree_raw.proofs.Common.{node_map, used-view}
 use Rattle.btree_raw.proofs.UpwardLemmas.{can-cut, upward-start, upward-used}
 use Rattle.btree_raw.proofs.splits.split_upward.Goals as goal
 

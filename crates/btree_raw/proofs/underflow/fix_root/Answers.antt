@@ -1,6 +1,4 @@
-use Rattle.std.proofs.Common.{arith, refl}
-use Rattle.btree_laws.specs.TreeState.{node_map}
-use Rattle.btree_laws.proofs.Trees.Stores.{used-view}
+use Rattle.btree_raw.proofs.Common.{arith, refl, node_map, used-view}
 use Rattle.btree_raw.proofs.FixedLemmas.{root-there, root-rests, can-release, released, emptied}
 use Rattle.btree_raw.proofs.StateLemmas.{same-len, same-kept}
 use Rattle.btree_raw.proofs.underflow.fix_root.Goals as goal

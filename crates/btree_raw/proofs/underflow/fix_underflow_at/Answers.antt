@@ -1,8 +1,5 @@
-use Rattle.std.proofs.Common.{subst, sym}
-use Rattle.btree_laws.specs.UnderflowFix.{Borrows, MergesNode}
-use Rattle.btree_laws.specs.TreeState.{TreeState, KeepsRest, node_map}
-use Rattle.btree_raw.specs.NodeSteps.{MergesSiblings}
-use Rattle.btree_raw.specs.Underflow.{AreAdjacent, BorrowsFromLeft, EndsUnderflow, FitTogether, MergesWithLeft, PassesUnderflowUp, Underflows}
+use Rattle.btree_raw.proofs.Common.{subst, sym, Borrows, MergesNode, TreeState, KeepsRest, node_map, MergesSiblings, AreAdjacent, EndsUnderflow, FitTogether, PassesUnderflowUp, Underflows}
+use Rattle.btree_raw.specs.Underflow.{BorrowsFromLeft, MergesWithLeft}
 use Rattle.btree_raw.proofs.UnderflowLemmas.{is-child, is-short, before-there, are-after, after-adjacent, after-left, after-up, after-few, are-before, as-after, as-before, before-right, low-after, none-after, right-borrows, right-merges}
 use Rattle.btree_raw.proofs.underflow.fix_underflow_at.Goals as goal
 

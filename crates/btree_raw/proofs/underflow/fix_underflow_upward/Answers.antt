@@ -1,7 +1,4 @@
-use Rattle.std.proofs.Common.{◌∙◌, Some, refl, ap, subst, arith}
-use Rattle.btree_laws.specs.TreeState.{node_map}
-use Rattle.btree_laws.proofs.Trees.Stores.{used-view}
-use Rattle.btree_raw.specs.Underflow.{AreFixed}
+use Rattle.btree_raw.proofs.Common.{◌∙◌, Some, refl, ap, subst, arith, node_map, used-view, AreFixed}
 use Rattle.btree_raw.proofs.FetchedLemmas.{count-there, parent-there}
 use Rattle.btree_raw.proofs.FixedLemmas.{fit-some, fix-start, short-unfit, still-followed, still-fixing, fix-used, fix-low, fix-enough, fix-here, fix-root, fix-above, fix-lower-of}
 use Rattle.btree_raw.proofs.StateLemmas.{same-len, same-kept, same-root, then}

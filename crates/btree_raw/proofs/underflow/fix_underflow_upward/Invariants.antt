@@ -1,7 +1,5 @@
-use Rattle.btree_laws.specs.Need.{levels_above}
-use Rattle.btree_laws.specs.TreeState.{KeepsRest, node_map}
-use Rattle.btree_raw.specs.Rebalance.{IsFit, StaysAsIs}
-use Rattle.btree_raw.specs.Steps.{HasCount, HasParent}
+use Rattle.btree_raw.proofs.Common.{levels_above, KeepsRest, node_map, IsFit, HasCount, HasParent}
+use Rattle.btree_raw.specs.Rebalance.{StaysAsIs}
 use Rattle.btree_raw.proofs.FixedLemmas.{FixedUpTo}
 use Rattle.btree_raw.proofs.underflow.fix_underflow_upward.Given as goal
 

@@ -1,7 +1,4 @@
-use Rattle.std.proofs.Common.{subst, sym}
-use Rattle.btree_laws.specs.TreeState.{TreeState, KeepsRest, node_map}
-use Rattle.btree_raw.specs.NodeSteps.{MergesSiblings}
-use Rattle.btree_raw.specs.Underflow.{AreAdjacent, FitTogether, PassesUnderflowUp}
+use Rattle.btree_raw.proofs.Common.{subst, sym, TreeState, KeepsRest, node_map, MergesSiblings, AreAdjacent, FitTogether, PassesUnderflowUp}
 use Rattle.btree_raw.proofs.UnderflowLemmas.{left-borrows, left-few, left-merges}
 use Rattle.btree_raw.proofs.underflow.fix_underflow_with_left.Goals as goal
 

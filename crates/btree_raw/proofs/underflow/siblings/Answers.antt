@@ -1,10 +1,6 @@
-use Rattle.std.proofs.Common.{◌≡◌, ◌+◌, ◌-◌, Some, slice_get, arith, rules, subst, sym}
-use Rattle.std.proofs.lemmas.Grind.{common_steps}
-use Rattle.btree_node.specs.Node.{view_of}
-use Rattle.btree_view.specs.View.{children_of}
+use Rattle.btree_raw.proofs.Common.{◌≡◌, ◌+◌, ◌-◌, Some, slice_get, arith, rules, subst, sym, common_steps, view_of, children_of, used-view}
 use Rattle.btree_raw.proofs.UnderflowLemmas.{child-parent, index-there, index-at, siblings-first, siblings-focus, siblings-next}
 use Rattle.btree_raw.proofs.underflow.siblings.Goals as goal
-use Rattle.btree_laws.proofs.Trees.Stores.{used-view}
 
 pub node-node-requires : goal.node-node-requires
 node-node-requires g c = (c.tell_fits.ensures, used-view c.args.tree.now.nodes c.args.parent (child-parent c.args.tree.now.nodes c.args.parent c.args.id c.requires))

@@ -1,5 +1,4 @@
-use Rattle.std.proofs.Common.{subst}
-use Rattle.btree_session.specs.Line.{IsNumber}
+use Rattle.btree_session.proofs.Common.{subst, IsNumber}
 use Rattle.btree_session.proofs.ArgumentLemmas.{limit-asked}
 use Rattle.btree_session.proofs.arguments.limit_of.Goals as goal
 

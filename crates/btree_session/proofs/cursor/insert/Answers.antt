@@ -1,4 +1,4 @@
-use Rattle.std.proofs.Common.{refl}
+use Rattle.btree_session.proofs.Common.{refl}
 use Rattle.btree_session.proofs.CursorMoves.{inserts-pair, refuses-pair}
 use Rattle.btree_session.proofs.cursor.insert.Goals as goal
 

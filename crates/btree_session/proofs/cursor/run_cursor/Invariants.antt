@@ -1,4 +1,4 @@
-use Rattle.std.proofs.Common.{◌≡◌, ◌+◌, ◌≤◌, take, length, vec_len, vec_capacity}
+use Rattle.btree_session.proofs.Common.{◌≡◌, ◌+◌, ◌≤◌, take, length, vec_len, vec_capacity}
 use Rattle.btree_session.specs.CursorMachine.{IsCursorStep, spot_of}
 use Rattle.btree_session.proofs.Runs.{HasAnswered}
 use Rattle.btree_session.proofs.cursor.run_cursor.Given as goal

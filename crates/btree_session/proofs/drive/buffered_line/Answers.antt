@@ -1,4 +1,4 @@
-use Rattle.std.proofs.Common.{sym}
+use Rattle.btree_session.proofs.Common.{sym}
 use Rattle.btree_session.proofs.Serving.{in_reader}
 use Rattle.btree_session.proofs.drive.buffered_line.Goals as goal
 

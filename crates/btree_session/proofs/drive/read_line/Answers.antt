@@ -1,4 +1,4 @@
-use Rattle.std.proofs.Common.{arith}
+use Rattle.btree_session.proofs.Common.{arith}
 use Rattle.btree_session.proofs.Serving.{read_through}
 use Rattle.btree_session.proofs.drive.read_line.Goals as goal
 

@@ -1,5 +1,4 @@
-use Rattle.std.proofs.Common.{arith}
-use Rattle.std.proofs.lemmas.Grind.{common_steps}
+use Rattle.btree_session.proofs.Common.{arith, common_steps}
 use Rattle.btree_session.proofs.Words.{no_word, word_behind}
 use Rattle.btree_session.proofs.line.next_word.Goals as goal
 

@@ -1,4 +1,4 @@
-use Rattle.std.proofs.Common.{arith, rules}
+use Rattle.btree_session.proofs.Common.{arith, rules}
 use Rattle.btree_session.proofs.Numerals.{more_digits, all_digits, no_digit, too_large}
 use Rattle.btree_session.proofs.line.number.Goals as goal
 

@@ -1,4 +1,4 @@
-use Rattle.std.proofs.Common.{◌^◌, ◌<◌, length}
+use Rattle.btree_session.proofs.Common.{◌^◌, ◌<◌, length}
 use Rattle.btree_session.proofs.Numerals.{AreDigits}
 use Rattle.btree_session.proofs.line.number.Given as goal
 

@@ -1,6 +1,6 @@
-use Rattle.std.proofs.Common.{sym, ap, ◌∙◌, subst}
+use Rattle.btree_session.proofs.Common.{sym, ap, ◌∙◌, subst, MeansLine}
 use Rattle.btree_session.specs.declared.line.Line.TheVariants.{Other}
-use Rattle.btree_session.specs.Line.{MeansLine, words_of}
+use Rattle.btree_session.specs.Line.{words_of}
 use Rattle.btree_session.proofs.Sayings.{means_nothing}
 use Rattle.btree_session.proofs.line.parse.Goals as goal
 

@@ -1,7 +1,5 @@
-use Rattle.std.proofs.Common.{ap, ◌∙◌, ◌++◌, ◌∷◌, ◌-◌, [], arith, append_assoc, refl}
-use Rattle.btree_laws.specs.TreeState.{views}
+use Rattle.btree_session.proofs.Common.{ap, ◌∙◌, ◌++◌, ◌∷◌, ◌-◌, [], arith, append_assoc, refl, views, shape_under}
 use Rattle.btree_session.proofs.Printing.{to_print, next_piece, at_error, at_end, not_at_end, on_err, Grows-same, Grows-by, branches_text, internal_open, key_put, child_put}
-use Rattle.btree_session.specs.Answer.{shape_under}
 use Rattle.btree_session.proofs.Room.{OnErr-map, lacks_short, lacks_first, first_child_text}
 use Rattle.btree_session.proofs.question.+push_shape.Goals as goal
 

@@ -1,6 +1,4 @@
-use Rattle.std.proofs.Common.{◌-◌, ◌≤◌, vec_capacity, ◌∷◌, ◌++◌, []}
-use Rattle.btree_laws.specs.TreeState.{views}
-use Rattle.btree_session.specs.Answer.{shape_under}
+use Rattle.btree_session.proofs.Common.{◌-◌, ◌≤◌, vec_capacity, ◌∷◌, ◌++◌, [], views, shape_under}
 use Rattle.btree_session.proofs.Printing.{Printed, branches_text}
 use Rattle.btree_session.proofs.question.+push_shape.Given as goal
 

@@ -1,4 +1,4 @@
-use Rattle.std.proofs.Common.{rules, arith, ap, ◌∙◌, ◌++◌, append-nil, map, decimal}
+use Rattle.btree_session.proofs.Common.{rules, arith, ap, ◌∙◌, ◌++◌, append-nil, map, decimal}
 use Rattle.btree_session.proofs.Printing.{to_print, next_piece, on_err, at_error, at_end, not_at_end, Grows-same, bracket_open, behind-next, behind-none}
 use Rattle.btree_session.proofs.Room.{OnErr-map, lacks_short}
 use Rattle.btree_session.proofs.question.push_leaf.Goals as goal

@@ -1,4 +1,4 @@
-use Rattle.std.proofs.Common.{◌≤◌, ◌∷◌, ◌++◌, [], length, map, decimal, vec_capacity}
+use Rattle.btree_session.proofs.Common.{◌≤◌, ◌∷◌, ◌++◌, [], length, map, decimal, vec_capacity}
 use Rattle.btree_session.specs.Answer.{bracketed}
 use Rattle.btree_session.proofs.Printing.{Printed, behind}
 use Rattle.btree_session.proofs.question.push_leaf.Given as goal

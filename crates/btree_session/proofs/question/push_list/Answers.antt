@@ -1,5 +1,4 @@
-use Rattle.std.proofs.Common.{rules, arith, refl, sym, ap, ◌∙◌, map}
-use Rattle.btree_session.specs.Answer.{pair_text}
+use Rattle.btree_session.proofs.Common.{rules, arith, refl, sym, ap, ◌∙◌, map, pair_text}
 use Rattle.btree_session.proofs.Printing.{to_print-as, next_piece, at_error, all_put, Grows-same, list_open, on_err, behind-next, behind-none}
 use Rattle.btree_session.proofs.Room.{lacks_short}
 use Rattle.btree_session.proofs.question.push_list.Goals as goal

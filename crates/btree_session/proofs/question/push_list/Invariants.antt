@@ -1,6 +1,5 @@
-use Rattle.std.proofs.Common.{◌≤◌, ◌++◌, [], length, map, vec_capacity}
-use Rattle.btree_laws.specs.TreeState.{pairs_of}
-use Rattle.btree_session.specs.Answer.{pair_text, list_text}
+use Rattle.btree_session.proofs.Common.{◌≤◌, ◌++◌, [], length, map, vec_capacity, pairs_of, pair_text}
+use Rattle.btree_session.specs.Answer.{list_text}
 use Rattle.btree_session.proofs.Printing.{Printed, behind}
 use Rattle.btree_session.proofs.question.push_list.Given as goal
 

@@ -1,4 +1,4 @@
-use Rattle.std.proofs.Common.{arith}
+use Rattle.btree_session.proofs.Common.{arith}
 use Rattle.btree_session.proofs.Runs.{one_more}
 use Rattle.btree_session.proofs.session.run.Goals as goal
 

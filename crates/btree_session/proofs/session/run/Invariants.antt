@@ -1,5 +1,4 @@
-use Rattle.std.proofs.Common.{◌+◌, ◌≤◌, take, length, vec_len, vec_capacity}
-use Rattle.btree_session.specs.Machine.{IsStep}
+use Rattle.btree_session.proofs.Common.{◌+◌, ◌≤◌, take, length, vec_len, vec_capacity, IsStep}
 use Rattle.btree_session.proofs.Runs.{HasAnswered}
 use Rattle.btree_session.proofs.session.run.Given as goal
 

@@ -1,4 +1,4 @@
-use Rattle.std.proofs.Common.{arith}
+use Rattle.btree_session.proofs.Common.{arith}
 use Rattle.btree_session.proofs.Digits.{decimal_pushed}
 use Rattle.btree_session.proofs.text.+push_decimal.Goals as goal
 

@@ -1,7 +1,4 @@
-use Rattle.std.proofs.Common.{◌∙◌, arith, inl, is_some, option_map, refl, sym, ap}
-use Rattle.std.proofs.lemmas.Result.{err_from_is_err_and}
-use Rattle.btree_node.specs.Node.{view_of}
-use Rattle.btree_view.specs.View.{children_of}
+use Rattle.btree_valid.proofs.Common.{◌∙◌, arith, inl, is_some, option_map, refl, sym, ap, err_from_is_err_and, view_of, children_of}
 use Rattle.btree_valid.specs.Spots.{freed}
 use Rattle.btree_valid.proofs.BlameLemmas.{child-blamed, end-blamed, leaf-blamed, next-met, start-met, too-deep, verdict-blamed}
 use Rattle.btree_valid.proofs.FaultLemmas.{child-next, child-ok, inner-end, inner-start, leaf-met, nothing-begins, past-end, verdict-ok}

@@ -1,5 +1,4 @@
-use Rattle.std.proofs.Common.{◌-◌}
-use Rattle.btree_node.specs.Node.{view_of}
+use Rattle.btree_valid.proofs.Common.{◌-◌, view_of}
 use Rattle.btree_valid.proofs.BlameLemmas.{AreMet}
 use Rattle.btree_valid.proofs.ExactLemmas.{IsDone}
 use Rattle.btree_valid.proofs.FaultLemmas.{AreLeft}

@@ -1,4 +1,4 @@
-use Rattle.btree_node.specs.Node.{view_of}
+use Rattle.btree_valid.proofs.Common.{view_of}
 use Rattle.btree_valid.proofs.ChildLemmas.{child-within}
 use Rattle.btree_valid.proofs.faults.below.Goals as goal
 

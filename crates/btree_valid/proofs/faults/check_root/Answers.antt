@@ -1,7 +1,5 @@
-use Rattle.std.proofs.Common.{None, Ok, Some, arith, refl, subst, sym}
+use Rattle.btree_valid.proofs.Common.{None, Ok, Some, arith, refl, subst, sym, Met, NamesTree}
 use Rattle.btree_valid.specs.Spots.{FindsTree, MeetsTree}
-use Rattle.btree_valid.specs.declared.faults.Met.{Met}
-use Rattle.btree_valid.specs.Verdicts.{NamesTree}
 use Rattle.btree_valid.proofs.EndLemmas.{all-named, none-named}
 use Rattle.btree_valid.proofs.TreeLemmas.{all-found, none-found}
 use Rattle.btree_valid.proofs.WholeLemmas.{all-comes, none-comes}

@@ -1,6 +1,4 @@
-use Rattle.std.proofs.Common.{◌≡◌, ◌∙◌, Some, ap, arith, inl, inr, refl, subst, sym}
-use Rattle.std.proofs.lemmas.Result.{err_from_is_err_and}
-use Rattle.btree_valid.specs.Verdicts.{NamesTree}
+use Rattle.btree_valid.proofs.Common.{◌≡◌, ◌∙◌, Some, ap, arith, inl, inr, refl, subst, sym, err_from_is_err_and, NamesTree}
 use Rattle.btree_valid.proofs.EnterLemmas.{parent-same, same-parent}
 use Rattle.btree_valid.proofs.faults.validate.Goals as goal
 

@@ -1,8 +1,5 @@
-use Rattle.std.proofs.Common.{◌≡◌, ◌∙◌, None, Ok, ap, refl, subst, sym}
-use Rattle.std.proofs.lemmas.Result.{err_from_is_err_and}
+use Rattle.btree_valid.proofs.Common.{◌≡◌, ◌∙◌, None, Ok, ap, refl, subst, sym, err_from_is_err_and, BlamesAt, Met}
 use Rattle.std.specs.Option.{unwrap_or}
-use Rattle.btree_valid.specs.Spots.{BlamesAt}
-use Rattle.btree_valid.specs.declared.faults.Met.{Met}
 use Rattle.btree_valid.proofs.EndLemmas.{node-named, node-passed}
 use Rattle.btree_valid.proofs.TreeLemmas.{node-suits}
 use Rattle.btree_valid.proofs.WholeLemmas.{node-blamed, node-met}

@@ -1,11 +1,7 @@
-use Rattle.std.proofs.Common.{◌≡◌, ◌∙◌, ◌+◌, false, true, arith, drop, refl, sym, ap, option_copied, option_map, rules}
-use Rattle.btree_node.specs.Node.{view_of}
-use Rattle.btree_view.specs.View.{branches_of, items_of}
-use Rattle.btree_laws.specs.TreeState.{views}
+use Rattle.btree_valid.proofs.Common.{◌≡◌, ◌∙◌, ◌+◌, false, true, arith, drop, refl, sym, ap, option_copied, option_map, rules, view_of, branches_of, items_of, views, common_steps}
 use Rattle.btree_valid.proofs.NodeLemmas.{inner-can, inner-start, is-internal, is-leaf, leaf-low, leaf-only, leaf-order, not-entered, nothing-there}
 use Rattle.btree_valid.proofs.PassLemmas.{node-child, node-end, node-next, node-stops}
 use Rattle.btree_valid.proofs.off_by_one.+pass_node.Goals as goal
-use Rattle.std.proofs.lemmas.Grind.{common_steps}
 
 pub returns-then-not-may_enter-clause-always : goal.returns-then-not-may_enter-clause-always
 returns-then-not-may_enter-clause-always g t c = λ can. absurd (not-entered g.K.Ord.cmp (g.C.Nodes.content c.args.nodes.now) c.args.root c.args.exempt c.args.part.height c.args.part.parent c.args.part.id c.args.seen.left (option_copied c.args.seen.last) c.in_ok-node.node.now c.in_ok-node.ensures.value c.if-not-may_enter.ensures.1 can)

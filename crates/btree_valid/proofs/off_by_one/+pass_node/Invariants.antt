@@ -1,8 +1,4 @@
-use Rattle.std.proofs.Common.{◌-◌, suc, drop, option_copied}
-use Rattle.btree_node.specs.Node.{view_of}
-use Rattle.btree_view.specs.View.{branches_of}
-use Rattle.btree_laws.specs.Represents.{Represents, numbers_under, represented}
-use Rattle.btree_laws.specs.TreeState.{views}
+use Rattle.btree_valid.proofs.Common.{◌-◌, suc, drop, option_copied, view_of, branches_of, Represents, numbers_under, represented, views}
 use Rattle.btree_valid.proofs.PassLemmas.{IsInNode}
 use Rattle.btree_valid.proofs.off_by_one.+pass_node.Given as goal
 

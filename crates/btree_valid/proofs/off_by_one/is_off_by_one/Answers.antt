@@ -1,4 +1,4 @@
-use Rattle.std.proofs.Common.{refl, sym}
+use Rattle.btree_valid.proofs.Common.{refl, sym}
 use Rattle.btree_valid.proofs.OffByOneLemmas.{found-off, not-there}
 use Rattle.btree_valid.proofs.off_by_one.is_off_by_one.Goals as goal
 

@@ -1,4 +1,4 @@
-use Rattle.std.proofs.Common.{option_copied, rules}
+use Rattle.btree_valid.proofs.Common.{option_copied, rules}
 use Rattle.btree_valid.proofs.OffByOneLemmas.{at-end, not-passed}
 use Rattle.btree_valid.proofs.off_by_one.is_off_by_one_at_height.Goals as goal
 

@@ -1,9 +1,6 @@
-use Rattle.std.proofs.Common.{arith, refl, rules}
-use Rattle.btree_laws.specs.TreeState.{views}
-use Rattle.btree_valid.specs.OffByOne.{IsOffByOneWithHeight}
+use Rattle.btree_valid.proofs.Common.{arith, refl, rules, views, IsOffByOneWithHeight, common_steps}
 use Rattle.btree_valid.proofs.OffByOneLemmas.{next-height}
 use Rattle.btree_valid.proofs.off_by_one.is_off_by_one_at_some_height.Goals as goal
-use Rattle.std.proofs.lemmas.Grind.{common_steps}
 
 pub loop-height-preserved : goal.loop-height-preserved
 loop-height-preserved g c = next-height (λ h. IsOffByOneWithHeight g.K.Ord.cmp (views (g.C.Nodes.content c.args.nodes.now)) c.args.root c.args.exempt h) c.loop-height.height c.loop-height.invariant c.if-is_off_by_one_at_height.ensures.1

@@ -1,5 +1,4 @@
-use Rattle.std.proofs.Common.{sym, ◌∙◌, rules}
-use Rattle.btree_node.specs.Node.{view_of}
+use Rattle.btree_valid.proofs.Common.{sym, ◌∙◌, rules, view_of}
 use Rattle.btree_valid.proofs.EnterLemmas.{enters, parent-same, same-parent}
 use Rattle.btree_valid.proofs.off_by_one.may_enter.Goals as goal
 

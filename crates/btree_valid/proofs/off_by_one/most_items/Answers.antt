@@ -1,4 +1,4 @@
-use Rattle.std.proofs.Common.{refl}
+use Rattle.btree_valid.proofs.Common.{refl}
 use Rattle.btree_valid.proofs.off_by_one.most_items.Goals as goal
 
 pub returns-in-Leaf : goal.returns-in-Leaf

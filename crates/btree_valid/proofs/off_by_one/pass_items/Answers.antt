@@ -1,9 +1,6 @@
-use Rattle.std.proofs.Common.{◌∙◌, sym, ap, arith, option_copied, refl, rules}
-use Rattle.btree_node.specs.Node.{view_of}
-use Rattle.btree_view.specs.View.{items_of}
+use Rattle.btree_valid.proofs.Common.{◌∙◌, sym, ap, arith, option_copied, refl, rules, view_of, items_of, common_steps}
 use Rattle.btree_valid.proofs.OrderLemmas.{path-end, path-next, path-start, path-stops}
 use Rattle.btree_valid.proofs.off_by_one.pass_items.Goals as goal
-use Rattle.std.proofs.lemmas.Grind.{common_steps}
 
 pub iter-item-items-requires : goal.iter-item-items-requires
 iter-item-items-requires g c = let fits = c.well_formed in omega arith

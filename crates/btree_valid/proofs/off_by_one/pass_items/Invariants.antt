@@ -1,6 +1,4 @@
-use Rattle.std.proofs.Common.{option_copied}
-use Rattle.btree_node.specs.Node.{view_of}
-use Rattle.btree_view.specs.View.{items_of}
+use Rattle.btree_valid.proofs.Common.{option_copied, view_of, items_of}
 use Rattle.btree_valid.proofs.OrderLemmas.{IsOnWay}
 use Rattle.btree_valid.proofs.off_by_one.pass_items.Given as goal
 

@@ -1,7 +1,5 @@
-use Rattle.std.proofs.Common.{refl, arith, ap}
+use Rattle.btree_walk.proofs.Common.{refl, arith, ap, view_of, fits-internal}
 use Rattle.std.specs.FinMap as map
-use Rattle.btree_node.specs.Node.{view_of}
-use Rattle.btree_node.proofs.NodeSizes.{fits-internal}
 use Rattle.btree_walk.proofs.WalkLemmas.{under-used, down-room, down-leaf, down-internal}
 use Rattle.btree_walk.proofs.RowLemmas.{pushed-smaller}
 use Rattle.btree_walk.proofs.ancestors.descend.Goals as goal

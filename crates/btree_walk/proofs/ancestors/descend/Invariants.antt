@@ -1,9 +1,5 @@
-use Rattle.std.proofs.Common.{◌++◌, ◌-◌, length}
+use Rattle.btree_walk.proofs.Common.{◌++◌, ◌-◌, length, remaining_above, represented, views, rows_of}
 use Rattle.std.specs.FinMap as map
-use Rattle.btree_laws.specs.Remaining.{remaining_above}
-use Rattle.btree_laws.specs.Represents.{represented}
-use Rattle.btree_laws.specs.TreeState.{views}
-use Rattle.btree_walk.specs.Rows.{rows_of}
 use Rattle.btree_walk.proofs.WalkLemmas.{IsDown}
 use Rattle.btree_walk.proofs.ancestors.descend.Given as goal
 

@@ -1,6 +1,5 @@
-use Rattle.std.proofs.Common.{refl, arith, ap, ◌∙◌, ◌∷◌, ◌+◌, rules}
+use Rattle.btree_walk.proofs.Common.{refl, arith, ap, ◌∙◌, ◌∷◌, ◌+◌, rules, rows_of}
 use Rattle.std.specs.FinMap as map
-use Rattle.btree_walk.specs.Rows.{rows_of}
 use Rattle.btree_walk.proofs.WalkLemmas.{taken-off, up-passed, up-rows, up-under, up-list, up-room, up-over}
 use Rattle.btree_walk.proofs.ancestors.next_above.Goals as goal
 use Rattle.std.proofs.lemmas.Grind.{common_steps}

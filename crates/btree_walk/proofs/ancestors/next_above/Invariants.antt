@@ -1,4 +1,4 @@
-use Rattle.std.proofs.Common.{length}
+use Rattle.btree_walk.proofs.Common.{length}
 use Rattle.std.specs.FinMap as map
 use Rattle.btree_walk.proofs.WalkLemmas.{IsUp}
 use Rattle.btree_walk.proofs.ancestors.next_above.Given as goal

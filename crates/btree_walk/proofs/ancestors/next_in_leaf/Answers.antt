@@ -1,5 +1,5 @@
 use Rattle.std.proofs.lemmas.Option.{slice_get_within}
-use Rattle.std.proofs.Common.{sym, arith}
+use Rattle.btree_walk.proofs.Common.{sym, arith}
 use Rattle.btree_node.proofs.RoomLemmas.{drop-next, drop-none}
 use Rattle.btree_walk.proofs.ancestors.next_in_leaf.Goals as goal
 

@@ -1,10 +1,5 @@
-use Rattle.std.proofs.Common.{sym, ap, subst, ◌∙◌, ◌++◌, arith, append-nil, refl, rules}
+use Rattle.btree_walk.proofs.Common.{sym, ap, subst, ◌∙◌, ◌++◌, arith, append-nil, refl, rules, remaining_above, represented, node_map, pairs_under, pairs_of, IsWellFormed, rows_of}
 use Rattle.std.specs.FinMap as map
-use Rattle.btree_laws.specs.Remaining.{remaining_above}
-use Rattle.btree_laws.specs.Represents.{represented}
-use Rattle.btree_laws.specs.TreeState.{node_map, pairs_under, pairs_of}
-use Rattle.btree_laws.specs.WellFormed.{IsWellFormed}
-use Rattle.btree_walk.specs.Rows.{rows_of}
 use Rattle.btree_walk.proofs.IterLemmas.{root-under}
 use Rattle.btree_walk.proofs.ancestors.start.Goals as goal
 

@@ -1,11 +1,5 @@
-use Rattle.std.proofs.Common.{◌++◌, ◌-◌, [], sym, ap, subst, ◌∙◌, arith, append-nil, refl}
+use Rattle.btree_walk.proofs.Common.{◌++◌, ◌-◌, [], sym, ap, subst, ◌∙◌, arith, append-nil, refl, view_of, represented, node_map, pairs_of, pairs_under, IsWellFormed, rises, preceding_above, rows_before}
 use Rattle.std.specs.FinMap as map
-use Rattle.btree_node.specs.Node.{view_of}
-use Rattle.btree_laws.specs.Represents.{represented}
-use Rattle.btree_laws.specs.TreeState.{node_map, pairs_of, pairs_under}
-use Rattle.btree_laws.specs.WellFormed.{IsWellFormed}
-use Rattle.btree_laws.proofs.LookUp.KeyInList.{rises}
-use Rattle.btree_walk.specs.Preceding.{preceding_above, rows_before}
 use Rattle.btree_walk.proofs.IterLemmas.{root-under}
 use Rattle.btree_walk.proofs.UpToLemmas.{row-kept, up_to-ascends, up_to-down, up_to-found, up_to-leaf, up_to-room}
 use Rattle.btree_walk.proofs.WalkLemmas.{under-used}

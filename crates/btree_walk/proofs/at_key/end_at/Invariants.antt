@@ -1,6 +1,5 @@
-use Rattle.std.proofs.Common.{◌-◌, length}
+use Rattle.btree_walk.proofs.Common.{◌-◌, length, pairs_of}
 use Rattle.std.specs.FinMap as map
-use Rattle.btree_laws.specs.TreeState.{pairs_of}
 use Rattle.btree_walk.proofs.UpToLemmas.{IsUpTo}
 use Rattle.btree_walk.proofs.at_key.end_at.Given as goal
 

@@ -1,6 +1,4 @@
-use Rattle.btree_item.specs.Pairs.{place_of}
-use Rattle.btree_node.specs.Node.{view_of}
-use Rattle.btree_view.specs.View.{children_of, items_of}
+use Rattle.btree_walk.proofs.Common.{place_of, view_of, children_of, items_of}
 use Rattle.btree_walk.proofs.AtKeyLemmas.{below-err, below-ok, below-some}
 use Rattle.btree_walk.proofs.at_key.items_below.Goals as goal
 

@@ -1,7 +1,4 @@
-use Rattle.std.proofs.Common.{arith}
-use Rattle.btree_item.specs.Pairs.{place_of}
-use Rattle.btree_node.specs.Node.{view_of}
-use Rattle.btree_view.specs.View.{children_of, items_of}
+use Rattle.btree_walk.proofs.Common.{arith, place_of, view_of, children_of, items_of}
 use Rattle.btree_walk.proofs.AtKeyLemmas.{below-some, up_to-err, up_to-ok}
 use Rattle.btree_walk.proofs.at_key.items_up_to.Goals as goal
 

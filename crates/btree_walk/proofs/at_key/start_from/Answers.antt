@@ -1,12 +1,5 @@
-use Rattle.std.proofs.Common.{◌++◌, [], refl, sym, ap, subst, ◌∙◌, arith, append-nil}
+use Rattle.btree_walk.proofs.Common.{◌++◌, [], refl, sym, ap, subst, ◌∙◌, arith, append-nil, view_of, remaining_above, represented, node_map, pairs_of, pairs_under, IsWellFormed, rises, rows_of}
 use Rattle.std.specs.FinMap as map
-use Rattle.btree_node.specs.Node.{view_of}
-use Rattle.btree_laws.specs.Remaining.{remaining_above}
-use Rattle.btree_laws.specs.Represents.{represented}
-use Rattle.btree_laws.specs.TreeState.{node_map, pairs_of, pairs_under}
-use Rattle.btree_laws.specs.WellFormed.{IsWellFormed}
-use Rattle.btree_laws.proofs.LookUp.KeyInList.{rises}
-use Rattle.btree_walk.specs.Rows.{rows_of}
 use Rattle.btree_walk.proofs.FromLemmas.{from-ascends, from-down, from-found, from-leaf, from-room}
 use Rattle.btree_walk.proofs.IterLemmas.{root-under}
 use Rattle.btree_walk.proofs.WalkLemmas.{under-used}

@@ -1,6 +1,4 @@
-use Rattle.std.proofs.Common.{◌-◌, arith, sym}
-use Rattle.btree_node.specs.Node.{view_of}
-use Rattle.btree_view.specs.View.{items_of}
+use Rattle.btree_walk.proofs.Common.{◌-◌, arith, sym, view_of, items_of}
 use Rattle.btree_walk.proofs.BackLemmas.{row-at, row-leaf, row-none}
 use Rattle.btree_walk.proofs.RowLemmas.{get-within}
 use Rattle.btree_walk.proofs.backward.branch_before.Goals as goal

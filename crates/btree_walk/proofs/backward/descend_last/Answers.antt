@@ -1,7 +1,5 @@
-use Rattle.std.proofs.Common.{◌≡◌, ◌∷◌, length, map, slice_get, Some, refl, arith, rules, ap, ◌∙◌, subst}
+use Rattle.btree_walk.proofs.Common.{◌≡◌, ◌∷◌, length, map, slice_get, Some, refl, arith, rules, ap, ◌∙◌, subst, view_of, fits-internal, fits-leaf}
 use Rattle.std.specs.FinMap as finite
-use Rattle.btree_node.specs.Node.{view_of}
-use Rattle.btree_node.proofs.NodeSizes.{fits-internal, fits-leaf}
 use Rattle.btree_walk.proofs.BackLemmas.{back-internal, back-leaf, back-room, whole-row}
 use Rattle.btree_walk.proofs.WalkLemmas.{under-used}
 use Rattle.btree_walk.proofs.RowLemmas.{pushed-smaller}

@@ -1,8 +1,5 @@
-use Rattle.std.proofs.Common.{◌++◌, ◌-◌, length}
+use Rattle.btree_walk.proofs.Common.{◌++◌, ◌-◌, length, represented, views, AreFetched, preceding_above, rows_before}
 use Rattle.std.specs.FinMap as map
-use Rattle.btree_laws.specs.Represents.{represented}
-use Rattle.btree_laws.specs.TreeState.{views}
-use Rattle.btree_walk.specs.Preceding.{AreFetched, preceding_above, rows_before}
 use Rattle.btree_walk.proofs.BackLemmas.{IsDownBack}
 use Rattle.btree_walk.proofs.backward.descend_last.Given as goal
 

@@ -1,10 +1,5 @@
-use Rattle.std.proofs.Common.{sym, ap, subst, ◌∙◌, ◌++◌, arith, refl, rules}
+use Rattle.btree_walk.proofs.Common.{sym, ap, subst, ◌∙◌, ◌++◌, arith, refl, rules, fits-leaf, represented, node_map, pairs_under, pairs_of, IsWellFormed, preceding_above, rows_before}
 use Rattle.std.specs.FinMap as map
-use Rattle.btree_node.proofs.NodeSizes.{fits-leaf}
-use Rattle.btree_laws.specs.Represents.{represented}
-use Rattle.btree_laws.specs.TreeState.{node_map, pairs_under, pairs_of}
-use Rattle.btree_laws.specs.WellFormed.{IsWellFormed}
-use Rattle.btree_walk.specs.Preceding.{preceding_above, rows_before}
 use Rattle.btree_walk.proofs.IterLemmas.{root-under}
 use Rattle.btree_walk.proofs.backward.end.Goals as goal
 

@@ -1,7 +1,5 @@
-use Rattle.std.proofs.Common.{refl, arith, rules, ap, ◌∙◌, ◌∷◌, ◌++◌, ◌+◌, []}
+use Rattle.btree_walk.proofs.Common.{refl, arith, rules, ap, ◌∙◌, ◌∷◌, ◌++◌, ◌+◌, [], fits-leaf, rows_before}
 use Rattle.std.specs.FinMap as map
-use Rattle.btree_node.proofs.NodeSizes.{fits-leaf}
-use Rattle.btree_walk.specs.Preceding.{rows_before}
 use Rattle.btree_walk.proofs.BackLemmas.{back-list, back-over, back-passed, back-push-room, back-rows, back-under, taken-off-back}
 use Rattle.btree_walk.proofs.backward.previous_above.Goals as goal
 

@@ -1,6 +1,5 @@
-use Rattle.std.proofs.Common.{length}
+use Rattle.btree_walk.proofs.Common.{length, AreFetched}
 use Rattle.std.specs.FinMap as map
-use Rattle.btree_walk.specs.Preceding.{AreFetched}
 use Rattle.btree_walk.proofs.BackLemmas.{IsUpBack}
 use Rattle.btree_walk.proofs.backward.previous_above.Given as goal
 

@@ -1,4 +1,4 @@
-use Rattle.std.proofs.Common.{◌≡◌, ◌+◌, ◌-◌, suc, take, subst, arith}
+use Rattle.btree_walk.proofs.Common.{◌≡◌, ◌+◌, ◌-◌, suc, take, subst, arith}
 use Rattle.btree_walk.proofs.RowLemmas.{yields-less}
 use Rattle.btree_walk.proofs.backward.run_to.Goals as goal
 

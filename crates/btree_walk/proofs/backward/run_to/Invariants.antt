@@ -1,4 +1,4 @@
-use Rattle.std.proofs.Common.{◌≡◌, ◌+◌, ◌-◌, ◌≤◌}
+use Rattle.btree_walk.proofs.Common.{◌≡◌, ◌+◌, ◌-◌, ◌≤◌}
 use Rattle.btree_walk.specs.Preceding.{kept_in_leaf}
 use Rattle.btree_walk.proofs.backward.run_to.Given as goal
 

@@ -1,4 +1,4 @@
-use Rattle.std.proofs.Common.{◌≡◌, ◌-◌, Some, length, slice_get, subst, sym, arith, rules}
+use Rattle.btree_walk.proofs.Common.{◌≡◌, ◌-◌, Some, length, slice_get, subst, sym, arith, rules}
 use Rattle.btree_walk.proofs.FetchedLemmas.{lowest-used, no-elements}
 use Rattle.btree_walk.proofs.fetched.fetch_before.Goals as goal
 

@@ -1,7 +1,4 @@
-use Rattle.std.proofs.Common.{length, refl, arith, ap, ◌∙◌, sym}
-use Rattle.std.proofs.lemmas.List.{length_push}
-use Rattle.btree_node.specs.Node.{view_of}
-use Rattle.btree_node.proofs.NodeSizes.{fits-leaf}
+use Rattle.btree_walk.proofs.Common.{length, refl, arith, ap, ◌∙◌, sym, length_push, view_of, fits-leaf}
 use Rattle.btree_laws.specs.TreeState.{IsUsed}
 use Rattle.btree_walk.proofs.FetchedLemmas.{all-push, row-child}
 use Rattle.btree_walk.proofs.fetched.fetch_children.Goals as goal

@@ -1,5 +1,4 @@
-use Rattle.std.proofs.Common.{◌≡◌, length}
-use Rattle.btree_walk.specs.Preceding.{AreFetched}
+use Rattle.btree_walk.proofs.Common.{◌≡◌, length, AreFetched}
 use Rattle.btree_walk.proofs.fetched.fetch_children.Given as goal
 
 abbrev pub invariant-loop-index : goal.invariant-loop-index

@@ -1,4 +1,4 @@
-use Rattle.std.proofs.Common.{◌-◌, arith}
+use Rattle.btree_walk.proofs.Common.{◌-◌, arith}
 use Rattle.btree_walk.proofs.FetchedLemmas.{some-get}
 use Rattle.btree_walk.proofs.fetched.read_early.Goals as goal
 

@@ -1,4 +1,4 @@
-use Rattle.std.proofs.Common.{◌≡◌, ◌-◌, Some, length, sym}
+use Rattle.btree_walk.proofs.Common.{◌≡◌, ◌-◌, Some, length, sym}
 use Rattle.std.specs.FinMap as map
 use Rattle.btree_walk.proofs.FetchedLemmas.{all-get, all-take}
 use Rattle.btree_walk.proofs.fetched.take_or_fetch.Goals as goal

@@ -1,4 +1,4 @@
-use Rattle.std.proofs.Common.{◌≡◌, drop}
+use Rattle.btree_walk.proofs.Common.{◌≡◌, drop}
 use Rattle.btree_walk.proofs.RowLemmas.{yields-more}
 use Rattle.btree_walk.proofs.iter.run_from.Goals as goal
 

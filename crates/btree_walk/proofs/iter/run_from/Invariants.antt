@@ -1,5 +1,4 @@
-use Rattle.std.proofs.Common.{◌≡◌}
-use Rattle.btree_walk.specs.Rows.{remaining_in_leaf}
+use Rattle.btree_walk.proofs.Common.{◌≡◌, remaining_in_leaf}
 use Rattle.btree_walk.proofs.iter.run_from.Given as goal
 
 abbrev pub invariant-loop : goal.invariant-loop

@@ -1,5 +1,4 @@
-use Rattle.std.proofs.Common.{subst, arith}
-use Rattle.btree_walk.specs.Ranges.{IsLastOf, behind_of, pair_now}
+use Rattle.btree_walk.proofs.Common.{subst, arith, IsLastOf, behind_of, pair_now}
 use Rattle.btree_walk.proofs.iter.step_back.Goals as goal
 
 pub returns-clause-last : goal.returns-clause-last

@@ -1,5 +1,4 @@
-use Rattle.std.proofs.Common.{Some, ap, ◌∙◌}
-use Rattle.btree_walk.specs.Ranges.{pair_now}
+use Rattle.btree_walk.proofs.Common.{Some, ap, ◌∙◌, pair_now}
 use Rattle.btree_walk.proofs.NearLemmas.{map-or}
 use Rattle.btree_walk.proofs.near.last_below.Goals as goal
 

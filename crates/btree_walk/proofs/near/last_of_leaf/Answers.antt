@@ -1,8 +1,4 @@
-use Rattle.std.proofs.Common.{◌+◌, ap, length, arith}
-use Rattle.btree_walk.specs.Bounds.{bound_key}
-use Rattle.btree_walk.specs.Near.{pair_past}
-use Rattle.btree_walk.specs.Ranges.{pair_now}
-use Rattle.btree_walk.specs.Rows.{remaining_in_leaf}
+use Rattle.btree_walk.proofs.Common.{◌+◌, ap, length, arith, bound_key, pair_past, pair_now, remaining_in_leaf}
 use Rattle.btree_walk.proofs.NearLemmas.{cutting-next, cutting-start, cutting-end, cutting-stop}
 use Rattle.btree_walk.proofs.near.last_of_leaf.Goals as goal
 

@@ -1,8 +1,4 @@
-use Rattle.std.proofs.Common.{length}
-use Rattle.btree_walk.specs.Bounds.{bound_key}
-use Rattle.btree_walk.specs.Near.{pair_past}
-use Rattle.btree_walk.specs.Ranges.{pair_now}
-use Rattle.btree_walk.specs.Rows.{remaining_in_leaf}
+use Rattle.btree_walk.proofs.Common.{length, bound_key, pair_past, pair_now, remaining_in_leaf}
 use Rattle.btree_walk.proofs.NearLemmas.{IsCutting}
 use Rattle.btree_walk.proofs.near.last_of_leaf.Given as goal
 

@@ -1,8 +1,4 @@
-use Rattle.std.proofs.Common.{◌+◌, drop, ap, length, arith}
-use Rattle.btree_node.specs.Node.{view_of}
-use Rattle.btree_view.specs.View.{branches_of}
-use Rattle.btree_walk.specs.Bounds.{bound_key}
-use Rattle.btree_walk.specs.Near.{branch_now, branch_past}
+use Rattle.btree_walk.proofs.Common.{◌+◌, drop, ap, length, arith, view_of, branches_of, bound_key, branch_now, branch_past}
 use Rattle.btree_walk.proofs.NearLemmas.{cutting-next, cutting-start, cutting-stop, cutting-end}
 use Rattle.btree_walk.proofs.near.last_of_row.Goals as goal
 

@@ -1,8 +1,4 @@
-use Rattle.std.proofs.Common.{drop, length}
-use Rattle.btree_node.specs.Node.{view_of}
-use Rattle.btree_view.specs.View.{branches_of}
-use Rattle.btree_walk.specs.Bounds.{bound_key}
-use Rattle.btree_walk.specs.Near.{branch_now, branch_past}
+use Rattle.btree_walk.proofs.Common.{drop, length, view_of, branches_of, bound_key, branch_now, branch_past}
 use Rattle.btree_walk.proofs.NearLemmas.{IsCutting}
 use Rattle.btree_walk.proofs.near.last_of_row.Given as goal
 

@@ -1,11 +1,5 @@
-use Rattle.std.proofs.Common.{[], ap, subst, sym, ◌∙◌}
+use Rattle.btree_walk.proofs.Common.{[], ap, subst, sym, ◌∙◌, view_of, fits-internal, fits-leaf, rises, bound_key, IsLast, list_under, pair_now}
 use Rattle.std.specs.FinMap as map
-use Rattle.btree_node.specs.Node.{view_of}
-use Rattle.btree_node.proofs.NodeSizes.{fits-internal, fits-leaf}
-use Rattle.btree_laws.proofs.LookUp.KeyInList.{rises}
-use Rattle.btree_walk.specs.Bounds.{bound_key}
-use Rattle.btree_walk.specs.Near.{IsLast, list_under}
-use Rattle.btree_walk.specs.Ranges.{pair_now}
 use Rattle.btree_walk.proofs.NearLemmas.{map-or, search-start, within}
 use Rattle.btree_walk.proofs.NearRowLemmas.{down-after, down-after-lower, down-ends, down-first, down-first-lower}
 use Rattle.btree_walk.proofs.WalkLemmas.{under-used}

@@ -1,9 +1,5 @@
 use Rattle.std.specs.FinMap as map
-use Rattle.btree_laws.specs.Focus.Search.{levels_below}
-use Rattle.btree_laws.specs.TreeState.{node_map}
-use Rattle.btree_walk.specs.Bounds.{bound_key}
-use Rattle.btree_walk.specs.Near.{list_under}
-use Rattle.btree_walk.specs.Ranges.{pair_now}
+use Rattle.btree_walk.proofs.Common.{levels_below, node_map, bound_key, list_under, pair_now}
 use Rattle.btree_walk.proofs.NearRowLemmas.{IsGoingDown}
 use Rattle.btree_walk.proofs.near.last_under.Given as goal
 

@@ -1,10 +1,7 @@
-use Rattle.std.proofs.Common.{◌≡◌, ◌∙◌, ◌-◌, suc, ap, arith, refl, sym}
+use Rattle.btree_walk.proofs.Common.{◌≡◌, ◌∙◌, ◌-◌, suc, ap, arith, refl, sym, ascends, rises, bound_key, branch_now, pair_now, remaining_in_leaf}
 use Rattle.std.specs.FinMap as map
-use Rattle.btree_laws.proofs.LookUp.KeyInList.{ascends, rises}
-use Rattle.btree_walk.specs.Bounds.{bound_key}
-use Rattle.btree_walk.specs.Near.{branch_now, child_in, list_below}
-use Rattle.btree_walk.specs.Ranges.{pair_now}
-use Rattle.btree_walk.specs.Rows.{remaining_in_leaf, remaining_of}
+use Rattle.btree_walk.specs.Near.{child_in, list_below}
+use Rattle.btree_walk.specs.Rows.{remaining_of}
 use Rattle.btree_walk.proofs.NearLemmas.{map-or}
 use Rattle.btree_walk.proofs.NearRowLemmas.{climb-end, climb-on, climb-start, climb-stop, leaf-ends, leaf-on, near-ends, near-rises}
 use Rattle.btree_walk.proofs.RowLemmas.{get-within}

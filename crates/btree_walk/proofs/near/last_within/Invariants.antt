@@ -1,6 +1,4 @@
-use Rattle.btree_walk.specs.Bounds.{bound_key}
-use Rattle.btree_walk.specs.Near.{branch_now}
-use Rattle.btree_walk.specs.Ranges.{pair_now}
+use Rattle.btree_walk.proofs.Common.{bound_key, branch_now, pair_now}
 use Rattle.btree_walk.specs.Rows.{remaining_of}
 use Rattle.btree_walk.proofs.NearRowLemmas.{IsClimbing}
 use Rattle.btree_walk.proofs.near.last_within.Given as goal

@@ -1,8 +1,4 @@
-use Rattle.std.proofs.Common.{◌∷◌, Some, arith, ap, ◌∙◌}
-use Rattle.btree_node.proofs.NodeSizes.{fits-leaf}
-use Rattle.btree_laws.proofs.LookUp.KeyInList.{ascends, rises}
-use Rattle.btree_walk.specs.Bounds.{bound_key}
-use Rattle.btree_walk.specs.Ranges.{ahead_of, pair_now}
+use Rattle.btree_walk.proofs.Common.{◌∷◌, Some, arith, ap, ◌∙◌, fits-leaf, ascends, rises, bound_key, ahead_of, pair_now}
 use Rattle.btree_walk.proofs.NearLemmas.{map-or}
 use Rattle.btree_walk.proofs.RangeLemmas.{last-cons, last-past}
 use Rattle.btree_walk.proofs.range.last_from.Goals as goal

@@ -1,6 +1,4 @@
-use Rattle.btree_laws.specs.TreeState.{pairs_of}
-use Rattle.btree_laws.proofs.LookUp.KeyInList.{rises}
-use Rattle.btree_walk.specs.Ranges.{behind_of, pair_now}
+use Rattle.btree_walk.proofs.Common.{pairs_of, rises, behind_of, pair_now}
 use Rattle.btree_walk.proofs.RangeLemmas.{found-behind, walk-behind}
 use Rattle.btree_walk.proofs.range.last_left.Goals as goal
 

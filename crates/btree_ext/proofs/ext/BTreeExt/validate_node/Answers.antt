@@ -1,4 +1,5 @@
-use Rattle.std.proofs.Common.{option_copied, subst}
+use Rattle.btree_ext.proofs.Common.{subst}
+use Rattle.std.proofs.Common.{option_copied}
 use Rattle.btree_valid.specs.Positions.{start_spot}
 use Rattle.btree_valid.specs.Verdicts.{IsVerdictBelow}
 use Rattle.btree_ext.proofs.ext.BTreeExt.validate_node.Goals as goal

@@ -1,4 +1,4 @@
-use Rattle.std.proofs.Common.{ap, refl, ◌∙◌}
+use Rattle.btree_ext.proofs.Common.{ap, refl, ◌∙◌}
 use Rattle.std.specs.FinMap.{empty_of_len}
 use Rattle.btree_laws.specs.TreeState.{rootless, unlimited}
 use Rattle.btree_ext.proofs.TreeLimitLemmas.{empty-within}

@@ -1,5 +1,4 @@
-use Rattle.std.proofs.Common.{ap, ◌∙◌}
-use Rattle.btree_laws.specs.TreeState.{TreeState, with_limit}
+use Rattle.btree_ext.proofs.Common.{ap, ◌∙◌, TreeState, with_limit}
 use Rattle.btree_ext.proofs.TreeLimitLemmas.{limited-within}
 use Rattle.btree_ext.proofs.tree.Tree.swap.Goals as goal
 

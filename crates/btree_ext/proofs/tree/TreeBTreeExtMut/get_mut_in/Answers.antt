@@ -1,5 +1,4 @@
-use Rattle.std.proofs.Common.{refl}
-use Rattle.btree_ext.specs.KeyWritten.{address_at_key}
+use Rattle.btree_ext.proofs.Common.{refl, address_at_key}
 use Rattle.btree_ext.proofs.TreeLimitLemmas.{written-within}
 use Rattle.btree_ext.proofs.tree.TreeBTreeExtMut.get_mut_in.Goals as goal
 

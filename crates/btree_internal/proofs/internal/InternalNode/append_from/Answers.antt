@@ -1,7 +1,6 @@
 use Rattle.btree_internal.proofs.InternalSizes.{fits-slots}
-use Rattle.std.proofs.Common.{◌≡◌, ◌∙◌, [], ◌++◌, ◌∷◌, ap, length, length-append, arith, rules}
-use Rattle.std.proofs.lemmas.List.{length-map}
-use Rattle.btree_view.specs.View.{internal}
+use Rattle.btree_internal.proofs.Common.{◌≡◌, ◌∙◌, [], ◌++◌, ◌∷◌, ap, length, arith, rules, length-map, internal}
+use Rattle.std.proofs.Common.{length-append}
 use Rattle.btree_internal.proofs.ChangeLemmas.{length-pairs, pairs, pairs-joined}
 use Rattle.btree_internal.proofs.internal.InternalNode.append_from.Goals as goal
 

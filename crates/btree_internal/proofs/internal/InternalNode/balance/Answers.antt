@@ -1,5 +1,4 @@
-use Rattle.std.proofs.lemmas.Grind.{common_steps}
-use Rattle.std.proofs.Common.{arith, rules}
+use Rattle.btree_internal.proofs.Common.{common_steps, arith, rules}
 use Rattle.btree_internal.proofs.internal.InternalNode.balance.Goals as goal
 
 pub item_count-requires : goal.item_count-requires

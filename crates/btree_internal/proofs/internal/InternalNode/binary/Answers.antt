@@ -1,6 +1,4 @@
-use Rattle.std.proofs.lemmas.Grind.{common_steps}
-use Rattle.std.proofs.Common.{◌∙◌, ◌++◌, ◌∷◌, [], ap, arith, rules}
-use Rattle.btree_view.specs.View.{internal}
+use Rattle.btree_internal.proofs.Common.{common_steps, ◌∙◌, ◌++◌, ◌∷◌, [], ap, arith, rules, internal}
 use Rattle.btree_internal.proofs.ChangeLemmas.{kept, pairs}
 use Rattle.btree_internal.proofs.internal.InternalNode.binary.Goals as goal
 

@@ -1,4 +1,4 @@
-use Rattle.std.proofs.Common.{arith}
+use Rattle.btree_internal.proofs.Common.{arith}
 use Rattle.btree_internal.proofs.BranchLemmas.{children_are, child-after}
 use Rattle.btree_internal.proofs.internal.InternalNode.child_id_opt.Goals as goal
 

@@ -1,10 +1,6 @@
-use Rattle.std.proofs.Common.{◌∙◌, arith, rules}
-use Rattle.std.specs.Prelude.{◌==◌}
-use Rattle.btree_internal.specs.Internal.{internal_view}
-use Rattle.btree_view.specs.View.{children_of}
+use Rattle.btree_internal.proofs.Common.{◌∙◌, arith, rules, ◌==◌, internal_view, children_of, common_steps}
 use Rattle.btree_internal.proofs.LookUpLemmas.{eq-true, eq-false, position-from_Some, position_from-here, position_from-next, position_from-end}
 use Rattle.btree_internal.proofs.internal.InternalNode.child_index.Goals as goal
-use Rattle.std.proofs.lemmas.Grind.{common_steps}
 
 pub returns-then-child_id-id-clause-value : goal.returns-then-child_id-id-clause-value
 returns-then-child_id-id-clause-value g c =

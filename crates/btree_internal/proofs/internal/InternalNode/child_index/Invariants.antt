@@ -1,8 +1,5 @@
-use Rattle.std.proofs.Common.{◌≡◌, drop}
-use Rattle.std.specs.Prelude.{◌==◌}
+use Rattle.btree_internal.proofs.Common.{◌≡◌, drop, ◌==◌, internal_view, children_of}
 use Rattle.std.specs.List.{position_from}
-use Rattle.btree_internal.specs.Internal.{internal_view}
-use Rattle.btree_view.specs.View.{children_of}
 use Rattle.btree_internal.proofs.internal.InternalNode.child_index.Given as goal
 
 abbrev pub invariant-loop-index : goal.invariant-loop-index

@@ -1,4 +1,4 @@
-use Rattle.std.proofs.Common.{◌∷◌, map, ap, sym, ◌∙◌}
+use Rattle.btree_internal.proofs.Common.{◌∷◌, map, ap, sym, ◌∙◌}
 use Rattle.btree_internal.proofs.BranchLemmas.{children-pairs}
 use Rattle.btree_internal.proofs.internal.InternalNode.children.Goals as goal
 

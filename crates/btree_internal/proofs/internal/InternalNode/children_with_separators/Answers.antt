@@ -1,5 +1,4 @@
-use Rattle.std.proofs.Common.{None, map, ap, ◌∙◌}
-use Rattle.btree_internal.specs.Internal.{branch_pair}
+use Rattle.btree_internal.proofs.Common.{None, map, ap, ◌∙◌, branch_pair}
 use Rattle.btree_view.specs.Separators.{between_items}
 use Rattle.btree_internal.proofs.internal.InternalNode.children_with_separators.Goals as goal
 

@@ -1,13 +1,10 @@
-use Rattle.std.proofs.Common.{◌≡◌, ◌+◌, length, map, sym, ap, ◌∙◌, arith}
-use Rattle.std.proofs.lemmas.List.{length-map}
+use Rattle.btree_internal.proofs.Common.{◌≡◌, ◌+◌, length, map, sym, ap, ◌∙◌, arith, length-map, place_of, branch_pair, internal_view, common_steps}
 use Rattle.btree_item.specs.Comparisons.{comparisons}
-use Rattle.btree_item.specs.Pairs.{before, place_of}
+use Rattle.btree_item.specs.Pairs.{before}
 use Rattle.btree_item.proofs.PairLemmas.{slice_get-from_place, found-from_place}
-use Rattle.btree_internal.specs.Internal.{branch_pair, internal_view}
 use Rattle.btree_internal.proofs.BranchLemmas.{branches_are, items_are}
 use Rattle.btree_view.specs.View.{size_of}
 use Rattle.btree_internal.proofs.internal.InternalNode.find_counted.Goals as goal
-use Rattle.std.proofs.lemmas.Grind.{common_steps}
 
 pub place-requires : goal.place-requires
 place-requires g c = (let fits = c.well_formed in omega arith, rw (items_are c.args.self.now _ c.self.inside.first c.self.inside.branches c.self.view_is) c.requires)

@@ -1,10 +1,8 @@
-use Rattle.std.proofs.Common.{Some, Ok, ap, sym, ◌∙◌, arith, rules}
+use Rattle.btree_internal.proofs.Common.{Some, Ok, ap, sym, ◌∙◌, arith, rules, internal_view, common_steps}
 use Rattle.btree_item.proofs.PairLemmas.{before-from_Err}
-use Rattle.btree_internal.specs.Internal.{internal_view}
 use Rattle.btree_internal.proofs.BranchLemmas.{there}
 use Rattle.btree_internal.proofs.LookUpLemmas.{look_up-Ok, look_up-Err}
 use Rattle.btree_internal.proofs.internal.InternalNode.get.Goals as goal
-use Rattle.std.proofs.lemmas.Grind.{common_steps}
 
 pub returns-in-Ok : goal.returns-in-Ok
 returns-in-Ok g c =

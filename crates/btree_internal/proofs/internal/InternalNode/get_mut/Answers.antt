@@ -1,13 +1,8 @@
-use Rattle.std.proofs.Common.{◌≡◌, Option, Some, None, Ok, inl, refl, ap, sym, ◌∙◌, arith, rules}
-use Rattle.std.specs.Prelude.{slice_get}
-use Rattle.std.specs.Option.{option_map}
+use Rattle.btree_internal.proofs.Common.{◌≡◌, Option, Some, None, Ok, inl, refl, ap, sym, ◌∙◌, arith, rules, slice_get, option_map, internal_view, items_of, common_steps}
 use Rattle.btree_item.proofs.PairLemmas.{before-from_Err}
-use Rattle.btree_internal.specs.Internal.{internal_view}
-use Rattle.btree_view.specs.View.{items_of}
 use Rattle.btree_internal.proofs.BranchLemmas.{with_value-from_at}
 use Rattle.btree_internal.proofs.LookUpLemmas.{look_up-Ok, look_up-Err, not-past}
 use Rattle.btree_internal.proofs.internal.InternalNode.get_mut.Goals as goal
-use Rattle.std.proofs.lemmas.Grind.{common_steps}
 
 item_of_value : {K V : Type 0} (o : Option (K × V)) (v : V) → Some v ≡ option_map (λ x. x.1) o → (x : K × V) × (o ≡ Some x) × (v ≡ x.1)
 item_of_value None v is = absurd (cc)

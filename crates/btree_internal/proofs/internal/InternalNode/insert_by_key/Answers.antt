@@ -1,9 +1,6 @@
 use Rattle.btree_internal.proofs.LookUpLemmas.{not-past}
-use Rattle.btree_view.specs.View.{items_of}
+use Rattle.btree_internal.proofs.Common.{items_of, ap, ◌∙◌, sym, Some, arith, internal_view, internal_with_value_at}
 use Rattle.btree_item.proofs.PairLemmas.{before-from_Ok}
-use Rattle.std.proofs.Common.{ap, ◌∙◌, sym, Some, arith}
-use Rattle.btree_internal.specs.Internal.{internal_view}
-use Rattle.btree_internal.specs.InternalLends.{internal_with_value_at}
 use Rattle.btree_internal.proofs.InsertionLemmas.{inserted-view}
 use Rattle.btree_internal.proofs.internal.InternalNode.insert_by_key.Goals as goal
 

@@ -1,5 +1,4 @@
-use Rattle.std.proofs.lemmas.Grind.{common_steps}
-use Rattle.std.proofs.Common.{arith, rules}
+use Rattle.btree_internal.proofs.Common.{common_steps, arith, rules}
 use Rattle.btree_internal.proofs.internal.InternalNode.item_count.Goals as goal
 
 pub len-requires : goal.len-requires

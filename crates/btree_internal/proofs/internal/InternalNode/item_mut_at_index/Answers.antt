@@ -1,4 +1,5 @@
-use Rattle.std.proofs.Common.{Some, None, inl, inr, ap, sym, refl}
+use Rattle.btree_internal.proofs.Common.{Some, None, inl, ap, sym, refl}
+use Rattle.std.proofs.Common.{inr}
 use Rattle.btree_internal.proofs.BranchLemmas.{item-read, item-written}
 use Rattle.btree_internal.proofs.internal.InternalNode.item_mut_at_index.Goals as goal
 

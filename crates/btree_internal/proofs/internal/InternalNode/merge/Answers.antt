@@ -1,7 +1,6 @@
 use Rattle.btree_internal.proofs.BranchLemmas.{remove-view, there}
 use Rattle.btree_internal.proofs.internal.InternalNode.merge.Goals as goal
-use Rattle.std.proofs.lemmas.Grind.{common_steps}
-use Rattle.std.proofs.Common.{arith, rules}
+use Rattle.btree_internal.proofs.Common.{common_steps, arith, rules}
 
 pub returns-clause-item : goal.returns-clause-item
 returns-clause-item g c = there c.args.self.now _ c.self.inside.first c.self.inside.branches c.self.view_is c.args.left c.remove-item.result c.remove-item.ensures.answer

@@ -1,7 +1,6 @@
-use Rattle.std.proofs.Common.{Ok, Err, ap, sym, ◌∙◌}
+use Rattle.btree_internal.proofs.Common.{Ok, ap, sym, ◌∙◌, internal_view, children_of}
+use Rattle.std.proofs.Common.{Err}
 use Rattle.btree_view.specs.LookUp.{placed}
-use Rattle.btree_internal.specs.Internal.{internal_view}
-use Rattle.btree_view.specs.View.{children_of}
 use Rattle.btree_internal.proofs.internal.InternalNode.offset_of_counted.Goals as goal
 
 pub returns-in-Ok-clause-value : goal.returns-in-Ok-clause-value

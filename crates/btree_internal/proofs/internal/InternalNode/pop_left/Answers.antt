@@ -1,7 +1,6 @@
 use Rattle.btree_internal.proofs.BranchLemmas.{pop_left-view}
 use Rattle.btree_internal.proofs.internal.InternalNode.pop_left.Goals as goal
-use Rattle.std.proofs.lemmas.Grind.{common_steps}
-use Rattle.std.proofs.Common.{arith, rules, refl}
+use Rattle.btree_internal.proofs.Common.{common_steps, arith, rules, refl}
 
 pub returns-clause-taken : goal.returns-clause-taken
 returns-clause-taken g c = pop_left-view c.args.self.now _ c.self.inside.first c.self.inside.branches c.self.view_is c.remove-item.new.self c.remove-item.result c.remove-item.ensures.answer c.remove-item.ensures.after

@@ -1,7 +1,6 @@
-use Rattle.std.proofs.Common.{sym, ◌∙◌, arith, rules, refl}
+use Rattle.btree_internal.proofs.Common.{sym, ◌∙◌, arith, rules, refl, common_steps}
 use Rattle.btree_internal.proofs.BranchLemmas.{pop_right-view}
 use Rattle.btree_internal.proofs.internal.InternalNode.pop_right.Goals as goal
-use Rattle.std.proofs.lemmas.Grind.{common_steps}
 
 pub returns-clause-taken : goal.returns-clause-taken
 returns-clause-taken g c = pop_right-view c.args.self.now _ c.self.inside.first c.self.inside.branches c.self.view_is c.pop.new.self c.unwrap-item.result (sym c.unwrap-item.ensures ∙ c.pop.ensures.answer) c.pop.ensures.after

@@ -1,5 +1,4 @@
-use Rattle.std.proofs.lemmas.Grind.{common_steps}
-use Rattle.std.proofs.Common.{arith, refl}
+use Rattle.btree_internal.proofs.Common.{common_steps, arith, refl}
 use Rattle.btree_internal.proofs.internal.InternalNode.push_left.Goals as goal
 
 pub insert-requires : goal.insert-requires

@@ -1,7 +1,6 @@
-use Rattle.std.proofs.Common.{sym, arith, rules}
+use Rattle.btree_internal.proofs.Common.{sym, arith, rules, common_steps}
 use Rattle.btree_internal.proofs.BranchLemmas.{child_behind, remove-view, there}
 use Rattle.btree_internal.proofs.internal.InternalNode.remove.Goals as goal
-use Rattle.std.proofs.lemmas.Grind.{common_steps}
 
 pub returns-clause-item : goal.returns-clause-item
 returns-clause-item g c =

@@ -1,11 +1,7 @@
 use Rattle.btree_internal.proofs.LookUpLemmas.{none-past}
-use Rattle.btree_view.specs.View.{items_of}
-use Rattle.btree_internal.specs.Internal.{internal_view}
-use Rattle.std.proofs.lemmas.List.{length-map}
+use Rattle.btree_internal.proofs.Common.{items_of, internal_view, length-map, common_steps, arith, rules}
 use Rattle.btree_internal.proofs.BranchLemmas.{replaced-view}
 use Rattle.btree_internal.proofs.internal.InternalNode.replace.Goals as goal
-use Rattle.std.proofs.lemmas.Grind.{common_steps}
-use Rattle.std.proofs.Common.{arith, rules}
 
 pub returns-clause-after : goal.returns-clause-after
 returns-clause-after g c = rw (c.unwrap-index.ensures.value, c.replace.ensures.after) (replaced-view c.args.self.now c.unwrap-index.result c.args.item)

@@ -1,4 +1,4 @@
-use Rattle.std.proofs.Common.{arith, ap, ◌∙◌}
+use Rattle.btree_internal.proofs.Common.{arith, ap, ◌∙◌}
 use Rattle.std.specs.Option.{option_copied}
 use Rattle.btree_internal.proofs.SeparatorLemmas.{key-after, key-before, no-key-before}
 use Rattle.btree_internal.proofs.internal.InternalNode.separators.Goals as goal

@@ -1,5 +1,4 @@
-use Rattle.std.proofs.lemmas.Grind.{common_steps}
-use Rattle.std.proofs.Common.{arith, rules}
+use Rattle.btree_internal.proofs.Common.{common_steps, arith, rules}
 use Rattle.btree_internal.proofs.internal.InternalNode.set_parent.Goals as goal
 
 pub unwrap_or-self-inside-requires : goal.unwrap_or-self-inside-requires

@@ -1,11 +1,8 @@
-use Rattle.std.proofs.Common.{arith, sym, ◌∙◌}
-use Rattle.std.proofs.lemmas.List.{length-map}
-use Rattle.btree_internal.specs.Internal.{branch_pair}
+use Rattle.btree_internal.proofs.Common.{arith, sym, ◌∙◌, length-map, branch_pair, common_steps}
 use Rattle.btree_internal.proofs.BranchLemmas.{long_as_items}
 use Rattle.btree_view.proofs.Cuts.{last_is_there, parts_of_split, front_of_split, back_of_split}
 use Rattle.btree_internal.proofs.InternalSplit.{IsSplit-internal}
 use Rattle.btree_internal.proofs.internal.InternalNode.split.Goals as goal
-use Rattle.std.proofs.lemmas.Grind.{common_steps}
 
 pub unwrap-item-requires : goal.unwrap-item-requires
 unwrap-item-requires g c =

@@ -1,11 +1,10 @@
-use Rattle.std.proofs.Common.{ap, ◌∙◌, subst}
+use Rattle.btree_internal.proofs.Common.{ap, ◌∙◌, internal_view, items_of}
+use Rattle.std.proofs.Common.{subst}
 use Rattle.std.specs.Map.{keys_of}
 use Rattle.std.specs.Option.{option_copied}
 use Rattle.btree_internal.proofs.BranchLemmas.{items_are, keys-branches}
 use Rattle.btree_internal.proofs.internal.InternalNode.validate.Goals as goal
-use Rattle.btree_internal.specs.Internal.{internal_view}
 use Rattle.btree_view.specs.Checks.{IsKeysVerdict}
-use Rattle.btree_view.specs.View.{items_of}
 
 pub returns : goal.returns
 returns g c =

@@ -1,8 +1,6 @@
-use Rattle.std.proofs.Common.{Some, inl, ap, sym, ◌∙◌, arith, rules}
-use Rattle.std.specs.Option.{option_map}
+use Rattle.btree_internal.proofs.Common.{Some, inl, ap, sym, ◌∙◌, arith, rules, option_map, common_steps}
 use Rattle.btree_internal.proofs.BranchLemmas.{there, value-at}
 use Rattle.btree_internal.proofs.internal.InternalNode.value_at.Goals as goal
-use Rattle.std.proofs.lemmas.Grind.{common_steps}
 
 pub returns-in-Some : goal.returns-in-Some
 returns-in-Some g c =

@@ -1,6 +1,5 @@
-use Rattle.std.proofs.Common.{Ordering, ◌≡◌, refl, ◌∙◌, ap}
-use Rattle.std.specs.declared.cmp.Ordering.TheVariants.{Less, Equal, Greater}
-use Rattle.std.specs.Ordering.{is_le, is_lt, is_some_and}
+use Rattle.btree_item.proofs.Common.{Ordering, ◌≡◌, refl, ◌∙◌, ap, Less, Equal, Greater, is_lt, is_some_and}
+use Rattle.std.specs.Ordering.{is_le}
 use Rattle.btree_item.specs.KeyLaws.{side_after}
 use Rattle.btree_item.proofs.query.AfterFirstQueryTuple2.is_after.Goals as goal
 

@@ -1,4 +1,4 @@
-use Rattle.std.proofs.Common.{◌<◌, Some, ◌∙◌, arith}
+use Rattle.btree_item.proofs.Common.{◌<◌, Some, ◌∙◌, arith}
 use Rattle.std.proofs.lemmas.List.{length-set}
 use Rattle.btree_item.proofs.SomesLemmas.{AreSome-lend, set-read, slot_edits, slot_held, somes-lend}
 use Rattle.btree_item.proofs.slots.Slots.get_mut.Goals as goal

@@ -1,4 +1,4 @@
-use Rattle.std.proofs.Common.{◌∙◌, ap, length, take, arith}
+use Rattle.btree_item.proofs.Common.{◌∙◌, ap, length, take, arith}
 use Rattle.btree_item.proofs.SomesLemmas.{AreSome-insert, length-held}
 use Rattle.btree_item.proofs.slots.Slots.insert.Goals as goal
 

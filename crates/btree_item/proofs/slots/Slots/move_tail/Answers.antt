@@ -1,5 +1,4 @@
-use Rattle.std.proofs.Common.{◌≤◌, ◌∙◌, sym, ap, length, take, drop, arith}
-use Rattle.btree_item.specs.Somes.{somes}
+use Rattle.btree_item.proofs.Common.{◌≤◌, ◌∙◌, sym, ap, length, take, drop, arith, somes}
 use Rattle.btree_item.proofs.SomesLemmas.{AreSome-append, AreSome-drop, AreSome-take, length-held, somes-take}
 use Rattle.btree_item.proofs.StoreLemmas.{take-take}
 use Rattle.btree_item.proofs.slots.Slots.move_tail.Goals as goal

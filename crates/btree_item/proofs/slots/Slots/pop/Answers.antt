@@ -1,6 +1,4 @@
-use Rattle.std.proofs.Common.{◌≡◌, ◌-◌, ◌≤◌, ◌∙◌, sym, ap, length, take, arith}
-use Rattle.std.specs.Prelude.{slice_get}
-use Rattle.btree_item.specs.Somes.{somes}
+use Rattle.btree_item.proofs.Common.{◌≡◌, ◌-◌, ◌≤◌, ◌∙◌, sym, ap, length, take, arith, slice_get, somes}
 use Rattle.btree_item.proofs.SomesLemmas.{AreSome-take, length-held, slot_held, somes-take}
 use Rattle.btree_item.proofs.StoreLemmas.{length-stored, read-at, stored-after, take-take}
 use Rattle.btree_item.proofs.slots.Slots.pop.Goals as goal

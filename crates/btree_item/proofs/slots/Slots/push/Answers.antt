@@ -1,5 +1,4 @@
-use Rattle.std.proofs.Common.{◌+◌, ◌<◌, ◌++◌, ◌∷◌, [], Some, length, ◌∙◌, ap, take, arith}
-use Rattle.btree_item.specs.Somes.{somes}
+use Rattle.btree_item.proofs.Common.{◌+◌, ◌<◌, ◌++◌, ◌∷◌, [], Some, length, ◌∙◌, ap, take, arith, somes}
 use Rattle.btree_item.proofs.SomesLemmas.{AreSome-store, length-held, somes-store}
 use Rattle.btree_item.proofs.StoreLemmas.{length-stored, stored}
 use Rattle.btree_item.proofs.slots.Slots.push.Goals as goal

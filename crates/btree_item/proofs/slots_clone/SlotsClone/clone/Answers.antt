@@ -1,9 +1,10 @@
-use Rattle.std.proofs.Common.{◌≡◌, ◌<◌, ◌++◌, ◌+◌, [], ◌∷◌, List, ℕ, refl, Result, Ok, Err, Option, None, Some, Bor, slice_get, length-append, sym, ◌∙◌, ap, subst, arith, length, take}
+use Rattle.btree_item.proofs.Common.{◌≡◌, ◌<◌, ◌++◌, ◌+◌, [], ◌∷◌, List, ℕ, refl, Ok, Err, Option, None, Some, sym, ◌∙◌, ap, subst, arith, length, take, slice_get_within, IsSome}
+use Rattle.std.proofs.Common.{Result, Bor, slice_get, length-append}
 use Rattle.std.proofs.lemmas.List.{take_all}
 use Rattle.std.proofs.lemmas.List.Elements.{all_zip_more}
-use Rattle.std.proofs.lemmas.Option.{get_or_from_slice_get, slice_get-get_or, slice_get_within}
+use Rattle.std.proofs.lemmas.Option.{get_or_from_slice_get, slice_get-get_or}
 use Rattle.std.specs.List.{All, AllZip}
-use Rattle.std.specs.Prelude.{IsErr, IsSome, MatchResult}
+use Rattle.std.specs.Prelude.{IsErr, MatchResult}
 use Rattle.std.specs.Option.{option_copied}
 use Rattle.btree_item.proofs.slots_clone.SlotsClone.clone.Goals as goal
 

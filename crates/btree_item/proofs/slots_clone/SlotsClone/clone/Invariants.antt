@@ -1,4 +1,4 @@
-use Rattle.std.proofs.Common.{◌≡◌, ◌≤◌, length, take}
+use Rattle.btree_item.proofs.Common.{◌≡◌, ◌≤◌, length, take}
 use Rattle.std.specs.List.{AllZip}
 use Rattle.btree_item.proofs.slots_clone.SlotsClone.clone.Given as goal
 

@@ -1,5 +1,4 @@
-use Rattle.std.proofs.lemmas.Grind.{common_steps}
-use Rattle.std.proofs.Common.{arith, rules, sym}
+use Rattle.btree_item.proofs.Common.{common_steps, arith, rules, sym}
 use Rattle.std.specs.Slice.Iter.{iter_rest}
 use Rattle.btree_item.proofs.slots_iter.SlotsIterDoubleEndedIterator.next_back.Goals as goal
 use Rattle.btree_item.proofs.IterLemmas.{last-goes, slot_steps_back}

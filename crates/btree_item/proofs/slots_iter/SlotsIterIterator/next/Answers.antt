@@ -1,5 +1,4 @@
-use Rattle.std.proofs.lemmas.Grind.{common_steps}
-use Rattle.std.proofs.Common.{arith, rules}
+use Rattle.btree_item.proofs.Common.{common_steps, arith, rules}
 use Rattle.btree_item.proofs.slots_iter.SlotsIterIterator.next.Goals as goal
 use Rattle.btree_item.proofs.IterLemmas.{slot_steps}
 

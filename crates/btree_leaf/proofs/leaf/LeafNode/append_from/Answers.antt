@@ -1,5 +1,5 @@
-use Rattle.std.proofs.Common.{◌≡◌, length, [], ◌++◌, ◌∷◌, arith, ap, ◌∙◌, length-append, rules}
-use Rattle.btree_view.specs.View.{leaf}
+use Rattle.btree_leaf.proofs.Common.{◌≡◌, length, ◌++◌, arith, ap, ◌∙◌, rules, leaf}
+use Rattle.std.proofs.Common.{[], ◌∷◌, length-append}
 use Rattle.btree_view.proofs.Cuts.{joined_behind}
 use Rattle.btree_leaf.proofs.leaf.LeafNode.append_from.Goals as goal
 

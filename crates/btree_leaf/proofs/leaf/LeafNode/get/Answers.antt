@@ -1,5 +1,5 @@
-use Rattle.std.proofs.lemmas.Grind.{common_steps}
-use Rattle.std.proofs.Common.{◌≡◌, ◌∙◌, Some, ap, arith, option_map, rules, slice_get, sym}
+use Rattle.btree_leaf.proofs.Common.{common_steps, ◌≡◌, ◌∙◌, Some, ap, arith, rules, sym}
+use Rattle.std.proofs.Common.{option_map, slice_get}
 use Rattle.std.specs.Option.{option_copied}
 use Rattle.btree_item.specs.Pairs.{found}
 use Rattle.btree_leaf.proofs.leaf.LeafNode.get.Goals as goal

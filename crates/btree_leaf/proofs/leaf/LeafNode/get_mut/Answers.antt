@@ -1,8 +1,7 @@
-use Rattle.std.proofs.Common.{◌∙◌, inl, sym, arith, rules}
-use Rattle.btree_view.specs.Kept.{node_of}
+use Rattle.btree_leaf.proofs.Common.{◌∙◌, sym, arith, rules, node_of, common_steps}
+use Rattle.std.proofs.Common.{inl}
 use Rattle.btree_leaf.proofs.LeafLemmas.{found_value-at, with_value-at}
 use Rattle.btree_leaf.proofs.leaf.LeafNode.get_mut.Goals as goal
-use Rattle.std.proofs.lemmas.Grind.{common_steps}
 
 pub returns-in-Some : goal.returns-in-Some
 returns-in-Some g c =

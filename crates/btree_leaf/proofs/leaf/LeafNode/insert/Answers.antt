@@ -1,5 +1,4 @@
-use Rattle.std.proofs.lemmas.Grind.{common_steps}
-use Rattle.std.proofs.Common.{arith}
+use Rattle.btree_leaf.proofs.Common.{common_steps, arith}
 use Rattle.btree_leaf.proofs.leaf.LeafNode.insert.Goals as goal
 
 pub unwrap-requires : goal.unwrap-requires

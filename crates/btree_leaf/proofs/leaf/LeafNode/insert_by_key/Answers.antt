@@ -1,11 +1,8 @@
-use Rattle.std.proofs.Common.{◌≡◌, Some, ap, sym, ◌∙◌, arith, rules}
+use Rattle.btree_leaf.proofs.Common.{◌≡◌, Some, ap, sym, ◌∙◌, arith, rules, Leaf, node_of, common_steps}
 use Rattle.std.specs.Prelude.{slice_get}
 use Rattle.std.specs.Option.{option_copied_mut}
-use Rattle.btree_leaf.specs.Leaf.{Leaf}
-use Rattle.btree_view.specs.Kept.{node_of}
 use Rattle.btree_leaf.proofs.LeafLemmas.{Ascends-from_inserted, inserted-at, inserted-gap}
 use Rattle.btree_leaf.proofs.leaf.LeafNode.insert_by_key.Goals as goal
-use Rattle.std.proofs.lemmas.Grind.{common_steps}
 
 pub returns-in-Ok-clause-after : goal.returns-in-Ok-clause-after
 returns-in-Ok-clause-after g c =

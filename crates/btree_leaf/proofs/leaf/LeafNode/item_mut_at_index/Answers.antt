@@ -1,6 +1,6 @@
 use borrow.Follows.Closed.{read_of}
 use Rattle.std.specs.Option.{ghost_name_of, option_copied_mut}
-use Rattle.btree_view.specs.Kept.{node_of}
+use Rattle.btree_leaf.proofs.Common.{node_of}
 use Rattle.btree_leaf.proofs.LeafLemmas.{item-read, item-written}
 use Rattle.btree_leaf.proofs.leaf.LeafNode.item_mut_at_index.Goals as goal
 

@@ -1,4 +1,5 @@
-use Rattle.std.proofs.Common.{◌≡◌, length, [], ◌∙◌, ap, arith, rules}
+use Rattle.btree_leaf.proofs.Common.{◌≡◌, length, ◌∙◌, ap, arith, rules}
+use Rattle.std.proofs.Common.{[]}
 use Rattle.btree_leaf.proofs.leaf.LeafNode.move_into.Goals as goal
 
 pub item_count-count-requires : goal.item_count-count-requires

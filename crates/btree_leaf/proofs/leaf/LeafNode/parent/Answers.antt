@@ -1,5 +1,4 @@
-use Rattle.std.proofs.lemmas.Grind.{common_steps}
-use Rattle.std.proofs.Common.{arith, rules}
+use Rattle.btree_leaf.proofs.Common.{common_steps, arith, rules}
 use Rattle.btree_leaf.proofs.leaf.LeafNode.parent.Goals as goal
 
 pub returns-then-self-clause-value : goal.returns-then-self-clause-value

@@ -1,5 +1,4 @@
-use Rattle.std.proofs.lemmas.Grind.{common_steps}
-use Rattle.std.proofs.Common.{arith, rules}
+use Rattle.btree_leaf.proofs.Common.{common_steps, arith, rules}
 use Rattle.btree_leaf.proofs.leaf.LeafNode.pop_left.Goals as goal
 
 pub has_spare-requires : goal.has_spare-requires

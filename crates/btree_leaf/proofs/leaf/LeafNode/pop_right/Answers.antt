@@ -1,10 +1,6 @@
-use Rattle.std.proofs.Common.{ap, sym, ◌∙◌, arith, rules}
+use Rattle.btree_leaf.proofs.Common.{ap, sym, ◌∙◌, arith, rules, leaf_view, node_of, leaf, common_steps}
 use Rattle.btree_view.proofs.Cuts.{last_out}
-use Rattle.btree_leaf.specs.Leaf.{leaf_view}
-use Rattle.btree_view.specs.Kept.{node_of}
-use Rattle.btree_view.specs.View.{leaf}
 use Rattle.btree_leaf.proofs.leaf.LeafNode.pop_right.Goals as goal
-use Rattle.std.proofs.lemmas.Grind.{common_steps}
 
 pub returns-clause-taken : goal.returns-clause-taken
 returns-clause-taken g c =

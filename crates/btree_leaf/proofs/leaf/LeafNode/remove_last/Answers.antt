@@ -1,9 +1,7 @@
-use Rattle.std.proofs.Common.{length, ap, sym, ◌∙◌, arith, rules}
+use Rattle.btree_leaf.proofs.Common.{length, ap, sym, ◌∙◌, arith, rules, leaf_view, node_of, leaf}
 use Rattle.btree_view.proofs.Cuts.{is_some-within, take-last}
-use Rattle.btree_leaf.specs.Leaf.{leaf_view}
 use Rattle.btree_view.specs.Edits.{without_last}
-use Rattle.btree_view.specs.Kept.{node_of}
-use Rattle.btree_view.specs.View.{last_item_of, leaf}
+use Rattle.btree_view.specs.View.{last_item_of}
 use Rattle.btree_leaf.proofs.leaf.LeafNode.remove_last.Goals as goal
 
 pub returns-clause-answer : goal.returns-clause-answer

@@ -1,4 +1,5 @@
-use Rattle.std.proofs.Common.{◌++◌, length, drop, arith, ap, sym, ◌∙◌, rules}
+use Rattle.btree_leaf.proofs.Common.{◌++◌, length, arith, ap, sym, ◌∙◌, rules}
+use Rattle.std.proofs.Common.{drop}
 use Rattle.btree_view.proofs.Cuts.{parts_of_split, front_of_split, back_of_split}
 use Rattle.btree_leaf.proofs.LeafSplit.{IsSplit-leaf}
 use Rattle.btree_leaf.proofs.leaf.LeafNode.split_into.Goals as goal

@@ -1,5 +1,4 @@
-use Rattle.std.proofs.Common.{refl, sym, ◌∙◌, ◌-◌, length}
-use Rattle.btree_laws.specs.TreeAddresses.{item_addresses_of}
+use Rattle.btree_map.proofs.Common.{refl, sym, ◌∙◌, ◌-◌, length, item_addresses_of}
 use Rattle.btree_map.specs.Cursor.{less-low}
 use Rattle.btree_map.proofs.CursorLemmas.{last-stands, none-last, stands-pair, stands-previous, stands-state, stands-written, stays-first, stays-last, stays-within}
 use Rattle.btree_map.proofs.SameCursor.{same_cursor}

@@ -1,4 +1,4 @@
-use Rattle.std.proofs.Common.{refl, ◌+◌}
+use Rattle.btree_map.proofs.Common.{refl, ◌+◌}
 use Rattle.btree_map.proofs.CursorLemmas.{stands-next, stands-pair, stands-state, stands-written, stays-first, stays-last, stays-within}
 use Rattle.btree_map.proofs.SameCursor.{same_cursor}
 use Rattle.btree_map.proofs.CursorSteps.{writes-first}

@@ -1,5 +1,4 @@
-use Rattle.std.proofs.Common.{ap, not}
-use Rattle.btree_laws.proofs.AddressLists.Whole.{addresses-tree}
+use Rattle.btree_map.proofs.Common.{ap, not, addresses-tree}
 use Rattle.btree_map.proofs.RangeSteps.{none-left, told-none}
 use Rattle.btree_map.proofs.cursor.RangeMut.is_empty.Goals as goal
 

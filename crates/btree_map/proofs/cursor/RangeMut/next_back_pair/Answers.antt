@@ -1,7 +1,4 @@
-use Rattle.std.proofs.Common.{◌∙◌, ◌-◌, refl, slice_get}
-use Rattle.btree_laws.specs.TreeAddresses.{item_addresses_of}
-use Rattle.btree_laws.specs.Visits.{prior}
-use Rattle.btree_map.specs.RangeCursor.{range_back, range_front}
+use Rattle.btree_map.proofs.Common.{◌∙◌, ◌-◌, refl, slice_get, item_addresses_of, prior, range_back, range_front}
 use Rattle.btree_map.proofs.CursorLemmas.{last-stands, stands-pair, stands-previous, stands-state, stands-written}
 use Rattle.btree_map.proofs.IndexLemmas.{any-back, differ-told}
 use Rattle.btree_map.proofs.RangeStarts.{once}

@@ -1,7 +1,5 @@
-use Rattle.std.proofs.Common.{◌∙◌, ◌-◌, drop, take, sym, arith}
-use Rattle.std.proofs.lemmas.List.{length-drop, length-map, length-take}
-use Rattle.btree_laws.specs.TreeState.{pairs_of}
-use Rattle.btree_laws.proofs.AddressLists.Whole.{addresses-tree}
+use Rattle.btree_map.proofs.Common.{◌∙◌, ◌-◌, drop, take, sym, arith, length-take, pairs_of, addresses-tree}
+use Rattle.std.proofs.lemmas.List.{length-drop, length-map}
 use Rattle.btree_map.proofs.cursor.ValuesMut.len.Goals as goal
 
 pub returns-clause-left : goal.returns-clause-left

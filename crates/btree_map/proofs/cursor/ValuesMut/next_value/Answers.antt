@@ -1,4 +1,4 @@
-use Rattle.std.proofs.Common.{refl, ◌+◌}
+use Rattle.btree_map.proofs.Common.{refl, ◌+◌}
 use Rattle.btree_map.proofs.CursorLemmas.{stands-next, stands-pair, stands-state, stands-written, stays-first, stays-within}
 use Rattle.btree_map.proofs.SameCursor.{same_values}
 use Rattle.btree_map.proofs.CursorSteps.{first-value, writes-value}

@@ -1,6 +1,4 @@
-use Rattle.std.proofs.Common.{◌≡◌, ◌+◌, ap, arith, length}
-use Rattle.btree_laws.specs.TreeAddresses.{item_addresses_of}
-use Rattle.btree_map.specs.Spans.{item_index}
+use Rattle.btree_map.proofs.Common.{◌≡◌, ◌+◌, ap, arith, length, item_addresses_of, item_index}
 use Rattle.btree_map.proofs.EditingLemmas.{at-listed, at-within, counted}
 use Rattle.btree_map.proofs.IndexLemmas.{index-is}
 use Rattle.btree_map.proofs.RangeStarts.{once}

@@ -1,6 +1,5 @@
-use Rattle.std.proofs.Common.{◌≡◌, ◌+◌, ◌-◌, length}
-use Rattle.btree_laws.specs.TreeAddresses.{item_addresses_of}
-use Rattle.btree_map.specs.Spans.{IsFirstListed, item_index}
+use Rattle.btree_map.proofs.Common.{◌≡◌, ◌+◌, ◌-◌, length, item_addresses_of, item_index}
+use Rattle.btree_map.specs.Spans.{IsFirstListed}
 use Rattle.btree_map.proofs.cursor.counts.count_from.Given as goal
 
 abbrev pub invariant-loop-next : goal.invariant-loop-next

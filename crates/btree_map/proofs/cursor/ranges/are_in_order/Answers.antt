@@ -1,8 +1,5 @@
-use Rattle.std.proofs.Common.{◌∙◌, IsSome, Some, nat_lt, subst, sym, ap}
+use Rattle.btree_map.proofs.Common.{◌∙◌, IsSome, Some, nat_lt, subst, sym, ap, is_le, item_addresses_of, index_after, index_of}
 use Rattle.std.specs.Option.{option_copied}
-use Rattle.std.specs.Ordering.{is_le}
-use Rattle.btree_laws.specs.TreeAddresses.{item_addresses_of}
-use Rattle.btree_map.specs.Spans.{index_after, index_of}
 use Rattle.btree_map.proofs.CursorLemmas.{listed-occupied}
 use Rattle.btree_map.proofs.IndexLemmas.{own-first, own-last}
 use Rattle.btree_map.proofs.RangeStarts.{ends-ordered}

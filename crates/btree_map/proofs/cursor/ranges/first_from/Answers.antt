@@ -1,8 +1,4 @@
-use Rattle.std.proofs.Common.{◌∙◌, slice_get, sym, ap}
-use Rattle.btree_laws.specs.TreeAddresses.{item_addresses_of}
-use Rattle.btree_laws.specs.TreeState.{pairs_of}
-use Rattle.btree_walk.specs.Bounds.{bound_key}
-use Rattle.btree_map.specs.Spans.{from_place}
+use Rattle.btree_map.proofs.Common.{◌∙◌, slice_get, sym, ap, item_addresses_of, pairs_of, bound_key, from_place}
 use Rattle.btree_map.proofs.RangeStarts.{found-after, found-first, gap-after, gap-first, whole-first}
 use Rattle.btree_map.proofs.cursor.ranges.first_from.Goals as goal
 

@@ -1,9 +1,4 @@
-use Rattle.std.proofs.Common.{◌∙◌, sym, ap}
-use Rattle.btree_laws.specs.TreeAddresses.{item_addresses_of}
-use Rattle.btree_laws.specs.TreeState.{pairs_of}
-use Rattle.btree_laws.specs.Visits.{prior}
-use Rattle.btree_walk.specs.Bounds.{bound_key}
-use Rattle.btree_map.specs.Spans.{to_place}
+use Rattle.btree_map.proofs.Common.{◌∙◌, sym, ap, item_addresses_of, pairs_of, prior, bound_key, to_place}
 use Rattle.btree_map.proofs.RangeStarts.{found-before, found-last, gap-before, gap-last, whole-last}
 use Rattle.btree_map.proofs.cursor.ranges.last_up_to.Goals as goal
 

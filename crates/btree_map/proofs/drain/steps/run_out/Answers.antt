@@ -1,6 +1,5 @@
-use Rattle.std.proofs.Common.{◌∙◌, subst, sym, true}
-use Rattle.btree_map.specs.Drain.{Ends, RunsOut}
-use Rattle.btree_map.specs.Editing.{entry_front}
+use Rattle.btree_map.proofs.Common.{◌∙◌, subst, sym, true, Ends, entry_front}
+use Rattle.btree_map.specs.Drain.{RunsOut}
 use Rattle.btree_map.proofs.DrainRuns.{runs-out}
 use Rattle.btree_map.proofs.drain.steps.run_out.Goals as goal
 

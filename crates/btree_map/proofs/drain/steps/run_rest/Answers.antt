@@ -1,4 +1,4 @@
-use Rattle.std.proofs.Common.{◌∙◌, ◌++◌, ◌∷◌, [], not, refl, rules}
+use Rattle.btree_map.proofs.Common.{◌∙◌, ◌++◌, ◌∷◌, [], not, refl, rules}
 use Rattle.btree_map.proofs.DrainRuns.{first-accepts, head-is, runs-start, runs-passed, runs-taken, runs-callable, same-answer, same-lent, other-answer}
 use Rattle.btree_map.proofs.drain.steps.run_rest.Goals as goal
 

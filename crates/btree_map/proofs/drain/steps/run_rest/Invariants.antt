@@ -1,5 +1,4 @@
-use Rattle.std.proofs.Common.{length}
-use Rattle.btree_map.specs.Editing.{left_of}
+use Rattle.btree_map.proofs.Common.{length, left_of}
 use Rattle.btree_map.proofs.DrainRuns.{IsRunning}
 use Rattle.btree_map.proofs.drain.steps.run_rest.Given as goal
 

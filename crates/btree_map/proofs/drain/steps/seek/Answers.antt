@@ -1,5 +1,4 @@
-use Rattle.std.proofs.Common.{◌∙◌, ◌++◌, ◌∷◌, [], false, refl, rules}
-use Rattle.btree_map.specs.Editing.{left_of}
+use Rattle.btree_map.proofs.Common.{◌∙◌, ◌++◌, ◌∷◌, [], false, refl, rules, left_of}
 use Rattle.btree_map.proofs.DrainRuns.{first-accepts, head-is, runs-start, runs-passed, runs-taken, runs-callable, still-none, fewer-left, same-lent}
 use Rattle.btree_map.proofs.drain.steps.seek.Goals as goal
 

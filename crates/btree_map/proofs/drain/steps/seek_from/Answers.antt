@@ -1,10 +1,6 @@
-use Rattle.std.proofs.Common.{◌≡◌, ◌≤◌, ◌∙◌, ap, drop, length, slice_get, subst, sym, true}
+use Rattle.btree_map.proofs.Common.{◌≡◌, ◌≤◌, ◌∙◌, ap, drop, length, slice_get, subst, sym, true, item_addresses_of, pairs_of, entry_front, index-within}
 use Rattle.std.specs.Map.Calls.{CallableOnEachPair}
-use Rattle.btree_laws.specs.TreeAddresses.{item_addresses_of}
-use Rattle.btree_laws.specs.TreeState.{pairs_of}
 use Rattle.btree_map.specs.Drain.{Yields}
-use Rattle.btree_map.specs.Editing.{entry_front}
-use Rattle.btree_map.specs.SpanLaws.{index-within}
 use Rattle.btree_map.proofs.drain.steps.seek_from.Goals as goal
 
 pub returns : goal.returns

@@ -1,4 +1,4 @@
-use Rattle.std.proofs.Common.{◌∙◌, Option, refl, sym, ap, subst}
+use Rattle.btree_map.proofs.Common.{◌∙◌, Option, refl, sym, ap, subst}
 use Rattle.std.specs.Map.Calls.{MayWrite, ModifiesValue}
 use Rattle.btree_map.specs.Entry.{entry_value}
 use Rattle.btree_map.proofs.WrittenLemmas.{written-twice, written-value}

@@ -1,4 +1,4 @@
-use Rattle.std.proofs.Common.{Some, refl, sym, ap, subst}
+use Rattle.btree_map.proofs.Common.{Some, refl, sym, ap, subst}
 use Rattle.std.proofs.lemmas.Result.{IfErr-weaker, IfOk-weaker}
 use Rattle.std.specs.Fn.{FnOnceReturnsAt}
 use Rattle.btree_map.proofs.entry.Entry.or_insert_with_key.Goals as goal

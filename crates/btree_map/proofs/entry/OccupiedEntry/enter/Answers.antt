@@ -1,5 +1,4 @@
-use Rattle.std.proofs.Common.{refl}
-use Rattle.btree_find.proofs.FitsLemmas.{item-occupied}
+use Rattle.btree_map.proofs.Common.{refl, item-occupied}
 use Rattle.btree_map.proofs.WrittenLemmas.{writes-value}
 use Rattle.btree_map.proofs.entry.OccupiedEntry.enter.Goals as goal
 

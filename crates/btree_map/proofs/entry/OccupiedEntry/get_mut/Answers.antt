@@ -1,5 +1,4 @@
-use Rattle.std.proofs.Common.{refl, ap, option_map}
-use Rattle.btree_find.proofs.FitsLemmas.{item-occupied}
+use Rattle.btree_map.proofs.Common.{refl, ap, option_map, item-occupied}
 use Rattle.btree_map.proofs.SameEntry.{same_entry}
 use Rattle.btree_map.proofs.WrittenLemmas.{writes-value}
 use Rattle.btree_map.proofs.entry.OccupiedEntry.get_mut.Goals as goal

@@ -1,4 +1,4 @@
-use Rattle.std.proofs.Common.{refl}
+use Rattle.btree_map.proofs.Common.{refl}
 use Rattle.btree_map.proofs.WrittenLemmas.{inserted-value, inserted-with}
 use Rattle.btree_map.proofs.entry.VacantEntry.insert.Goals as goal
 

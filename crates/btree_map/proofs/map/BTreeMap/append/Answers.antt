@@ -1,7 +1,4 @@
-use Rattle.std.proofs.Common.{◌≡◌, ◌∙◌, ◌∷◌, [], ap, sym, rules}
-use Rattle.btree_item.specs.Pairs.{inserted}
-use Rattle.btree_laws.specs.TreeState.{pairs_of}
-use Rattle.btree_map.specs.Extension.{inserted_all}
+use Rattle.btree_map.proofs.Common.{◌≡◌, ◌∙◌, ◌∷◌, [], ap, sym, rules, inserted, pairs_of, inserted_all}
 use Rattle.btree_find.specs.CallerLaws.{none-first}
 use Rattle.btree_map.proofs.ExtensionLemmas.{all-into-none, first-and-rest}
 use Rattle.btree_map.proofs.map.BTreeMap.append.Goals as goal

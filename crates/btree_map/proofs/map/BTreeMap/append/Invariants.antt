@@ -1,6 +1,5 @@
-use Rattle.std.proofs.Common.{◌≡◌, length}
-use Rattle.btree_laws.specs.TreeState.{pairs_of}
-use Rattle.btree_map.specs.Extension.{Moves, inserted_all}
+use Rattle.btree_map.proofs.Common.{◌≡◌, length, pairs_of, inserted_all}
+use Rattle.btree_map.specs.Extension.{Moves}
 use Rattle.btree_map.proofs.map.BTreeMap.append.Given as goal
 
 abbrev pub invariant-loop-key : goal.invariant-loop-key

@@ -1,6 +1,4 @@
-use Rattle.std.proofs.Common.{ap, arith, drop, sym, take}
-use Rattle.btree_laws.specs.TreeAddresses.{item_addresses_of}
-use Rattle.btree_laws.specs.TreeState.{pairs_of}
+use Rattle.btree_map.proofs.Common.{ap, arith, drop, sym, take, item_addresses_of, pairs_of}
 use Rattle.btree_map.proofs.IndexLemmas.{index-is}
 use Rattle.btree_map.proofs.KnownLemmas.{known-one}
 use Rattle.btree_map.proofs.RangeStarts.{once}

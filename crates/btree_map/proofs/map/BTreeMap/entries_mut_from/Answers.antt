@@ -1,5 +1,4 @@
-use Rattle.btree_laws.specs.TreeAddresses.{item_addresses_of}
-use Rattle.btree_walk.specs.Bounds.{bound_key}
+use Rattle.btree_map.proofs.Common.{item_addresses_of, bound_key}
 use Rattle.btree_map.proofs.KnownLemmas.{known-none}
 use Rattle.btree_map.proofs.RangeStarts.{before-first, from-first}
 use Rattle.btree_map.proofs.RangeSteps.{stands-first}

@@ -1,7 +1,4 @@
-use Rattle.std.proofs.Common.{◌≡◌, ◌∙◌, ◌∷◌, [], None, Some, refl, ap}
-use Rattle.btree_item.specs.Pairs.{inserted}
-use Rattle.btree_laws.specs.TreeState.{pairs_of}
-use Rattle.btree_map.specs.Extension.{inserted_all}
+use Rattle.btree_map.proofs.Common.{◌≡◌, ◌∙◌, ◌∷◌, [], None, Some, refl, ap, inserted, pairs_of, inserted_all}
 use Rattle.btree_map.specs.CallerLaws.{last-pair}
 use Rattle.btree_map.proofs.map.BTreeMap.extend.Goals as goal
 

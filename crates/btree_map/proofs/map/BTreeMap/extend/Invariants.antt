@@ -1,7 +1,5 @@
-use Rattle.std.proofs.Common.{◌≡◌, IfSome}
+use Rattle.btree_map.proofs.Common.{◌≡◌, IfSome, pairs_of, IsLastPair}
 use Rattle.std.specs.Iterator.{IsFinite, size}
-use Rattle.btree_laws.specs.TreeState.{pairs_of}
-use Rattle.btree_map.specs.Ascending.{IsLastPair}
 use Rattle.btree_map.specs.Extension.{Extends}
 use Rattle.btree_map.proofs.map.BTreeMap.extend.Given as goal
 

@@ -1,4 +1,4 @@
-use Rattle.std.proofs.Common.{refl}
+use Rattle.btree_map.proofs.Common.{refl}
 use Rattle.btree_map.proofs.map.BTreeMap.get_mut_by.Goals as goal
 
 pub returns : goal.returns

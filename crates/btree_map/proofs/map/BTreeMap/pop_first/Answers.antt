@@ -1,4 +1,4 @@
-use Rattle.std.proofs.Common.{refl}
+use Rattle.btree_map.proofs.Common.{refl}
 use Rattle.btree_map.proofs.RemovalLemmas.{first-removed, no-first}
 use Rattle.btree_map.proofs.map.BTreeMap.pop_first.Goals as goal
 

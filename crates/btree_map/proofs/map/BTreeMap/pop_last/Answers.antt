@@ -1,4 +1,4 @@
-use Rattle.std.proofs.Common.{refl}
+use Rattle.btree_map.proofs.Common.{refl}
 use Rattle.btree_map.proofs.RemovalLemmas.{last-removed, last-some, no-last, removed-pair, removes-place}
 use Rattle.btree_map.proofs.map.BTreeMap.pop_last.Goals as goal
 

@@ -1,6 +1,4 @@
-use Rattle.std.proofs.Common.{sym}
-use Rattle.btree_laws.specs.TreeAddresses.{item_addresses_of}
-use Rattle.btree_walk.specs.Bounds.{bound_key}
+use Rattle.btree_map.proofs.Common.{sym, item_addresses_of, bound_key}
 use Rattle.btree_map.proofs.RangeStarts.{between-ends}
 use Rattle.btree_map.proofs.RangeSteps.{stands-first, stands-last}
 use Rattle.btree_map.proofs.map.BTreeMap.range_mut.Goals as goal

@@ -1,7 +1,5 @@
-use Rattle.std.proofs.Common.{◌≡◌, ◌∙◌, false, true, subst, sym}
-use Rattle.btree_laws.specs.TreeState.{pairs_of}
-use Rattle.btree_map.specs.Drain.{Ends, KeepsAddresses, Selects}
-use Rattle.btree_map.specs.Editing.{entry_front}
+use Rattle.btree_map.proofs.Common.{◌≡◌, ◌∙◌, false, true, subst, sym, pairs_of, Ends, entry_front}
+use Rattle.btree_map.specs.Drain.{KeepsAddresses, Selects}
 use Rattle.btree_map.proofs.DrainRuns.{all-selected, all-uncounted, keeps-addresses}
 use Rattle.btree_map.proofs.map.BTreeMap.retain_by.Goals as goal
 

@@ -1,7 +1,5 @@
-use Rattle.std.proofs.Common.{◌≡◌, ◌∙◌, ◌++◌, ◌∷◌, ◌≤◌, [], arith, sym, ap, subst}
-use Rattle.std.specs.declared.ops.Bound.TheVariants.{Included}
-use Rattle.btree_laws.specs.TreeState.{TreeState, pairs_of}
-use Rattle.btree_laws.proofs.LookUp.KeyInList.{Rises, rises, rises-right}
+use Rattle.btree_map.proofs.Common.{◌≡◌, ◌∙◌, ◌++◌, ◌∷◌, ◌≤◌, [], arith, sym, ap, subst, Included, TreeState, pairs_of, Rises, rises}
+use Rattle.btree_laws.proofs.LookUp.KeyInList.{rises-right}
 use Rattle.btree_map.specs.Splitting.{AreFrom}
 use Rattle.btree_map.proofs.SplitLemmas.{all-kept, inserted-front, kept-before, moved-from, one-more}
 use Rattle.btree_map.proofs.map.BTreeMap.split_off.Goals as goal

@@ -1,7 +1,4 @@
-use Rattle.std.proofs.Common.{◌≡◌, ◌++◌, [], length}
-use Rattle.std.specs.declared.ops.Bound.TheVariants.{Included}
-use Rattle.btree_laws.specs.TreeState.{pairs_of}
-use Rattle.btree_map.specs.Removal.{AddsNoNode}
+use Rattle.btree_map.proofs.Common.{◌≡◌, ◌++◌, [], length, Included, pairs_of, AddsNoNode}
 use Rattle.btree_map.specs.Splitting.{AreFrom}
 use Rattle.btree_map.proofs.map.BTreeMap.split_off.Given as goal
 

@@ -1,4 +1,4 @@
-use Rattle.std.proofs.Common.{refl}
+use Rattle.btree_map.proofs.Common.{refl}
 use Rattle.btree_map.proofs.map.BTreeMapBTreeExtMut.get_mut_in.Goals as goal
 
 pub returns : goal.returns

@@ -1,4 +1,4 @@
-use Rattle.std.proofs.Common.{refl, subst}
+use Rattle.btree_map.proofs.Common.{refl, subst}
 use Rattle.std.specs.Fn.{CalledAt}
 use Rattle.btree_map.proofs.pair_test.ByKeyPairTest.passes.Goals as goal
 

@@ -1,4 +1,4 @@
-use Rattle.std.proofs.Common.{refl, subst}
+use Rattle.btree_map.proofs.Common.{refl, subst}
 use Rattle.std.specs.Map.Calls.{CalledAtPair}
 use Rattle.btree_map.proofs.pair_test.ByPairPairTest.passes.Goals as goal
 

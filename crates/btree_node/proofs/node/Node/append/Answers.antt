@@ -1,4 +1,4 @@
-use Rattle.std.proofs.Common.{arith}
+use Rattle.btree_node.proofs.Common.{arith}
 use Rattle.btree_node.proofs.node.Node.append.Goals as goal
 
 pub array_drop-emptied-requires-2 : goal.array_drop-emptied-requires-2

@@ -1,8 +1,6 @@
 use Rattle.btree_node.proofs.NodeSizes.{fits-internal, fits-leaf}
-use Rattle.std.proofs.Common.{Some, ap, sym, ◌∙◌, arith}
-use Rattle.std.proofs.lemmas.List.{length-map}
+use Rattle.btree_node.proofs.Common.{Some, ap, sym, ◌∙◌, arith, length-map, common_steps}
 use Rattle.btree_node.proofs.node.Node.append_from.Goals as goal
-use Rattle.std.proofs.lemmas.Grind.{common_steps}
 
 pub append_from-requires : goal.append_from-requires
 append_from-requires g c =

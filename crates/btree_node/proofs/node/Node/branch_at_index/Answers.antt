@@ -1,9 +1,8 @@
-use Rattle.std.proofs.Common.{arith, rules}
+use Rattle.btree_node.proofs.Common.{arith, rules, common_steps}
 use Rattle.std.proofs.lemmas.List.{drop_all}
 use Rattle.btree_node.proofs.NodeSizes.{fits-internal, fits-branches}
 use Rattle.btree_node.proofs.RoomLemmas.{drop-at_branch, drop-no_branch}
 use Rattle.btree_node.proofs.node.Node.branch_at_index.Goals as goal
-use Rattle.std.proofs.lemmas.Grind.{common_steps}
 
 pub item_count-requires : goal.item_count-requires
 item_count-requires g c = search fits-internal

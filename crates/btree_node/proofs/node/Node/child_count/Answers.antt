@@ -1,7 +1,6 @@
 use Rattle.btree_node.proofs.NodeSizes.{fits-internal}
 use Rattle.btree_node.proofs.node.Node.child_count.Goals as goal
-use Rattle.std.proofs.lemmas.Grind.{common_steps}
-use Rattle.std.proofs.Common.{arith, refl, rules}
+use Rattle.btree_node.proofs.Common.{common_steps, arith, refl, rules}
 
 pub child_count-requires : goal.child_count-requires
 child_count-requires g c = search fits-internal

@@ -1,7 +1,6 @@
-use Rattle.btree_view.specs.View.{children_of}
-use Rattle.btree_node.specs.Node.{view_of}
+use Rattle.btree_node.proofs.Common.{children_of, view_of, rules, ap, ◌∙◌}
 use Rattle.std.proofs.lemmas.Option.{slice_get-get_or}
-use Rattle.std.proofs.Common.{rules, ap, is_some, ◌∙◌}
+use Rattle.std.proofs.Common.{is_some}
 use Rattle.btree_node.proofs.node.Node.child_id.Goals as goal
 
 pub child_id_opt-requires : goal.child_id_opt-requires

@@ -1,7 +1,7 @@
 use Rattle.btree_node.proofs.NodeSizes.{fits-internal}
 use Rattle.btree_node.proofs.node.Node.child_index.Goals as goal
-use Rattle.std.proofs.lemmas.List.{length-map}
-use Rattle.std.proofs.Common.{◌≡◌, ℕ, ◌<◌, ◌≤◌, Option, Some, None, IfSome, arith, refl, rules, suc}
+use Rattle.btree_node.proofs.Common.{length-map, ◌≡◌, ℕ, ◌<◌, Option, Some, None, arith, refl, rules}
+use Rattle.std.proofs.Common.{◌≤◌, IfSome, suc}
 
 below-next : (o : Option ℕ) (m n : ℕ) → m ≡ n → IfSome o (λ i. i ≤ n) → IfSome o (λ i. i < suc m)
 below-next None m n same low = tt

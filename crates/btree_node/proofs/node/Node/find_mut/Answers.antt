@@ -1,9 +1,8 @@
 use Rattle.btree_node.proofs.NodeSizes.{fits-internal, fits-leaf}
 use borrow.Enum.Known.{at}
 use borrow.Enum.Total.{values_d, values_o}
-use denote.Param.{param}
-use Rattle.std.proofs.Common.{◌≡◌, inl, inr, subst, Some, None, Ok, Err, refl, ap, sym, ◌∙◌}
-use Rattle.btree_node.specs.declared.node.Node.{Node}
+use Rattle.btree_node.proofs.Common.{param, ◌≡◌, subst, Some, None, Ok, Err, refl, ap, sym, ◌∙◌, Node, leaf_view, internal_view, view_of}
+use Rattle.std.proofs.Common.{inl, inr}
 use Rattle.btree_node.specs.contracts.node.Node.{enum as node_enum}
 use Rattle.btree_leaf.specs.Leaf.{Leaf as LeafParts}
 use Rattle.btree_internal.specs.Internal.{Internal as InternalParts}
@@ -11,9 +10,6 @@ use Rattle.btree_leaf.specs.LeafLends.{leaf_with_value}
 use Rattle.btree_internal.specs.InternalLends.{internal_with_value}
 use Rattle.btree_node.specs.NodeLends.{node_with_value}
 use Rattle.btree_view.specs.LookUp.{find_in}
-use Rattle.btree_leaf.specs.Leaf.{leaf_view}
-use Rattle.btree_internal.specs.Internal.{internal_view}
-use Rattle.btree_node.specs.Node.{view_of}
 use Rattle.btree_node.proofs.LookUpLemmas.{find_in-from_look_up, find_in-from_found}
 use Rattle.btree_node.proofs.NodeLemmas.{put_when}
 use Rattle.btree_node.proofs.node.Node.find_mut.Goals as goal

@@ -1,5 +1,5 @@
 use Rattle.btree_node.proofs.NodeSizes.{fits-internal, fits-leaf}
-use Rattle.std.proofs.Common.{Ok, ap, sym, ◌∙◌}
+use Rattle.btree_node.proofs.Common.{Ok, ap, sym, ◌∙◌}
 use Rattle.btree_node.proofs.LookUpLemmas.{looked_up-leaf}
 use Rattle.btree_node.proofs.node.Node.get.Goals as goal
 

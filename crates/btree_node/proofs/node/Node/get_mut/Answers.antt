@@ -1,5 +1,4 @@
-use Rattle.std.proofs.Common.{Some, None, Ok, Err}
-use Rattle.btree_node.specs.Node.{view_of}
+use Rattle.btree_node.proofs.Common.{Some, None, Ok, Err, view_of}
 use Rattle.btree_node.proofs.LookUpLemmas.{look_up-from_find}
 use Rattle.btree_node.proofs.node.Node.get_mut.Goals as goal
 

@@ -1,9 +1,7 @@
 use Rattle.btree_node.proofs.NodeSizes.{fits-internal, fits-leaf}
-use Rattle.std.proofs.Common.{arith}
-use Rattle.std.proofs.lemmas.List.{length-map}
+use Rattle.btree_node.proofs.Common.{arith, length-map, common_steps}
 use Rattle.btree_node.proofs.NodeLemmas.{with_item-leaf}
 use Rattle.btree_node.proofs.node.Node.insert.Goals as goal
-use Rattle.std.proofs.lemmas.Grind.{common_steps}
 
 pub insert-requires : goal.insert-requires
 insert-requires g c =

@@ -1,4 +1,4 @@
-use Rattle.std.proofs.Common.{arith, refl}
+use Rattle.btree_node.proofs.Common.{arith, refl}
 use Rattle.btree_node.proofs.NodeSizes.{fits-internal, fits-leaf}
 use Rattle.btree_node.proofs.node.Node.insert_by_key.Goals as goal
 

@@ -1,5 +1,4 @@
-use Rattle.std.proofs.Common.{sym, ◌∙◌}
-use Rattle.std.proofs.lemmas.List.{length-map}
+use Rattle.btree_node.proofs.Common.{sym, ◌∙◌, length-map}
 use Rattle.btree_node.proofs.NodeSizes.{fits-internal, fits-leaf}
 use Rattle.btree_node.proofs.RoomLemmas.{at_least}
 use Rattle.btree_node.proofs.node.Node.is_full.Goals as goal

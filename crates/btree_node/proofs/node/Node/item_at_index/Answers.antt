@@ -1,10 +1,8 @@
-use Rattle.std.proofs.Common.{◌<◌, ap, sym, ◌∙◌, arith, rules}
+use Rattle.btree_node.proofs.Common.{◌<◌, ap, sym, ◌∙◌, arith, rules, view_of, items_of, common_steps}
 use Rattle.std.proofs.lemmas.Option.{slice_get_past}
-use Rattle.btree_node.specs.Node.{view_of}
-use Rattle.btree_view.specs.View.{items_of, item_at_offset}
+use Rattle.btree_view.specs.View.{item_at_offset}
 use Rattle.btree_node.proofs.RoomLemmas.{on-some}
 use Rattle.btree_node.proofs.node.Node.item_at_index.Goals as goal
-use Rattle.std.proofs.lemmas.Grind.{common_steps}
 
 pub returns-then-index-item_count-clause-item : goal.returns-then-index-item_count-clause-item
 returns-then-index-item_count-clause-item g c =

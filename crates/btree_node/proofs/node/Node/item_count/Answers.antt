@@ -1,7 +1,6 @@
 use Rattle.btree_node.proofs.NodeSizes.{fits-internal, fits-leaf}
 use Rattle.btree_node.proofs.node.Node.item_count.Goals as goal
-use Rattle.std.proofs.lemmas.Grind.{common_steps}
-use Rattle.std.proofs.Common.{arith}
+use Rattle.btree_node.proofs.Common.{common_steps, arith}
 
 pub item_count-requires : goal.item_count-requires
 item_count-requires g c = search fits-internal

@@ -2,21 +2,14 @@ use Rattle.btree_node.proofs.NodeSizes.{fits-internal, fits-leaf}
 use borrow.Enum.Known.{at}
 use borrow.Enum.Total.{values_d, values_o}
 use borrow.Follows.Closed.{read_of}
-use denote.Param.{param}
-use Rattle.std.proofs.Common.{◌≡◌, subst, refl, ap, sym, ◌∙◌}
+use Rattle.btree_node.proofs.Common.{param, ◌≡◌, subst, refl, ap, sym, ◌∙◌, slice_get, Node, leaf_view, internal_view, view_of, items_of}
 use Rattle.std.specs.Option.{ghost_name_of, option_and_then}
-use Rattle.std.specs.Prelude.{slice_get}
-use Rattle.btree_node.specs.declared.node.Node.{Node}
 use Rattle.btree_node.specs.contracts.node.Node.{enum as node_enum}
 use Rattle.btree_leaf.specs.Leaf.{Leaf as LeafParts}
 use Rattle.btree_leaf.specs.LeafLends.{leaf_with_item_at}
 use Rattle.btree_internal.specs.Internal.{Internal as InternalParts}
 use Rattle.btree_internal.specs.InternalLends.{internal_with_item_at}
 use Rattle.btree_node.specs.NodeLends.{node_with_item_at}
-use Rattle.btree_leaf.specs.Leaf.{leaf_view}
-use Rattle.btree_internal.specs.Internal.{internal_view}
-use Rattle.btree_node.specs.Node.{view_of}
-use Rattle.btree_view.specs.View.{items_of}
 use Rattle.btree_node.proofs.NodeLemmas.{put_when}
 use Rattle.btree_node.proofs.node.Node.item_mut.Goals as goal
 

@@ -1,7 +1,5 @@
 use Rattle.btree_node.proofs.NodeSizes.{fits-internal, fits-leaf}
-use Rattle.std.proofs.Common.{sym, arith, rules}
-use Rattle.std.proofs.lemmas.List.{length-map}
-use Rattle.btree_node.specs.Node.{view_of}
+use Rattle.btree_node.proofs.Common.{sym, arith, rules, length-map, view_of}
 use Rattle.btree_view.proofs.RemovalLemmas.{removal-internal, removal-leaf, removal-past}
 use Rattle.btree_node.proofs.node.Node.leaf_remove.Goals as goal
 

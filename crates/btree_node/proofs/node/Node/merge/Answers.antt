@@ -1,8 +1,6 @@
 use Rattle.btree_node.proofs.NodeSizes.{fits-internal}
-use Rattle.std.proofs.Common.{arith, rules}
-use Rattle.std.proofs.lemmas.List.{length-map}
+use Rattle.btree_node.proofs.Common.{arith, rules, length-map, common_steps}
 use Rattle.btree_node.proofs.node.Node.merge.Goals as goal
-use Rattle.std.proofs.lemmas.Grind.{common_steps}
 
 pub merge-requires : goal.merge-requires
 merge-requires g c =

@@ -1,4 +1,4 @@
-use Rattle.std.proofs.Common.{refl}
+use Rattle.btree_node.proofs.Common.{refl}
 use Rattle.btree_node.proofs.NodeSizes.{fits-leaf}
 use Rattle.btree_node.proofs.node.Node.move_into.Goals as goal
 

@@ -1,7 +1,6 @@
 use Rattle.btree_node.proofs.NodeSizes.{fits-internal, fits-leaf}
 use Rattle.btree_node.proofs.node.Node.offset_of_counted.Goals as goal
-use Rattle.std.proofs.lemmas.Grind.{common_steps}
-use Rattle.std.proofs.Common.{arith, rules}
+use Rattle.btree_node.proofs.Common.{common_steps, arith, rules}
 
 pub offset_of_counted-requires : goal.offset_of_counted-requires
 offset_of_counted-requires g c = (search fits-internal, rw c.in-Internal.is at c.requires)

@@ -1,8 +1,7 @@
 use Rattle.btree_node.proofs.NodeSizes.{fits-internal, fits-leaf}
-use Rattle.std.proofs.Common.{ap, arith, rules}
+use Rattle.btree_node.proofs.Common.{ap, arith, rules, common_steps}
 use Rattle.btree_node.specs.declared.node.Node.TheVariants.{Leaf}
 use Rattle.btree_node.proofs.node.Node.pop_left.Goals as goal
-use Rattle.std.proofs.lemmas.Grind.{common_steps}
 
 pub pop_left-requires : goal.pop_left-requires
 pop_left-requires g c = let fits = c.well_formed in search fits-internal

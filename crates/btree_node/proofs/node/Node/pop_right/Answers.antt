@@ -1,9 +1,7 @@
 use Rattle.btree_node.proofs.NodeSizes.{fits-internal, fits-leaf}
-use Rattle.std.proofs.Common.{Some, ap, sym, ◌∙◌, arith, rules}
-use Rattle.std.proofs.lemmas.List.{length-map}
+use Rattle.btree_node.proofs.Common.{Some, ap, sym, ◌∙◌, arith, rules, length-map, common_steps}
 use Rattle.btree_node.specs.declared.node.Node.TheVariants.{Leaf}
 use Rattle.btree_node.proofs.node.Node.pop_right.Goals as goal
-use Rattle.std.proofs.lemmas.Grind.{common_steps}
 
 pub pop_right-requires : goal.pop_right-requires
 pop_right-requires g c = let fits = c.well_formed in search fits-internal

@@ -1,8 +1,6 @@
 use Rattle.btree_node.proofs.NodeSizes.{fits-internal, fits-leaf}
-use Rattle.std.proofs.Common.{arith}
-use Rattle.std.proofs.lemmas.List.{length-map}
+use Rattle.btree_node.proofs.Common.{arith, length-map, common_steps}
 use Rattle.btree_node.proofs.node.Node.push_left.Goals as goal
-use Rattle.std.proofs.lemmas.Grind.{common_steps}
 
 pub push_left-requires : goal.push_left-requires
 push_left-requires g c =

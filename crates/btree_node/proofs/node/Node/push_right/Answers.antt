@@ -1,8 +1,6 @@
 use Rattle.btree_node.proofs.NodeSizes.{fits-internal, fits-leaf}
-use Rattle.std.proofs.Common.{Some, arith, ap, sym, ◌∙◌}
-use Rattle.std.proofs.lemmas.List.{length-map}
+use Rattle.btree_node.proofs.Common.{Some, arith, ap, sym, ◌∙◌, length-map, common_steps}
 use Rattle.btree_node.proofs.node.Node.push_right.Goals as goal
-use Rattle.std.proofs.lemmas.Grind.{common_steps}
 
 pub push_right-requires : goal.push_right-requires
 push_right-requires g c =

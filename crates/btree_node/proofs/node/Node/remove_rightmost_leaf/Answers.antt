@@ -1,9 +1,5 @@
 use Rattle.btree_node.proofs.NodeSizes.{fits-internal, fits-leaf}
-use Rattle.std.proofs.Common.{ap, refl, sym, ◌∙◌, arith, rules}
-use Rattle.std.proofs.lemmas.List.{length-map}
-use Rattle.std.specs.Prelude.{slice_get}
-use Rattle.btree_internal.specs.Internal.{internal_view}
-use Rattle.btree_view.specs.View.{children_of}
+use Rattle.btree_node.proofs.Common.{ap, refl, sym, ◌∙◌, arith, rules, length-map, slice_get, internal_view, children_of}
 use Rattle.btree_node.proofs.node.Node.remove_rightmost_leaf.Goals as goal
 
 pub item_count-requires : goal.item_count-requires

@@ -1,8 +1,6 @@
 use Rattle.btree_node.proofs.NodeSizes.{fits-internal}
-use Rattle.std.proofs.lemmas.List.{length-map}
+use Rattle.btree_node.proofs.Common.{length-map, common_steps, arith}
 use Rattle.btree_node.proofs.node.Node.replace.Goals as goal
-use Rattle.std.proofs.lemmas.Grind.{common_steps}
-use Rattle.std.proofs.Common.{arith}
 
 pub replace-requires : goal.replace-requires
 replace-requires g c =

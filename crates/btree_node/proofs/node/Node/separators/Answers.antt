@@ -1,5 +1,4 @@
-use Rattle.std.proofs.Common.{arith, refl}
-use Rattle.std.proofs.lemmas.List.{length-map}
+use Rattle.btree_node.proofs.Common.{arith, refl, length-map}
 use Rattle.btree_node.proofs.NodeSizes.{fits-internal}
 use Rattle.btree_node.proofs.node.Node.separators.Goals as goal
 

@@ -1,6 +1,5 @@
 use Rattle.btree_node.proofs.NodeSizes.{fits-internal, fits-leaf}
-use Rattle.std.proofs.Common.{sym, ◌∙◌}
-use Rattle.std.proofs.lemmas.List.{length-map}
+use Rattle.btree_node.proofs.Common.{sym, ◌∙◌, length-map}
 use Rattle.btree_node.proofs.SplitSizes.{size-split_internal, size-split_leaf}
 use Rattle.btree_node.proofs.node.Node.split.Goals as goal
 

@@ -1,8 +1,5 @@
 use Rattle.btree_node.proofs.NodeSizes.{fits-internal, fits-leaf}
-use Rattle.std.proofs.Common.{ap, sym, ◌∙◌}
-use Rattle.std.proofs.lemmas.List.{length-map}
-use Rattle.btree_node.specs.Node.{view_of}
-use Rattle.btree_view.specs.View.{size_of}
+use Rattle.btree_node.proofs.Common.{ap, sym, ◌∙◌, length-map, view_of, size_of}
 use Rattle.btree_node.proofs.SplitSizes.{size-split_internal}
 use Rattle.btree_node.proofs.node.Node.split_into.Goals as goal
 

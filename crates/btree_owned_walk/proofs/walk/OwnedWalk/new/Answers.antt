@@ -1,4 +1,4 @@
-use Rattle.std.proofs.Common.{arith}
+use Rattle.btree_owned_walk.proofs.Common.{arith}
 use Rattle.btree_owned_walk.proofs.LeavingLemmas.{new-leaving}
 use Rattle.btree_owned_walk.proofs.walk.OwnedWalk.new.Goals as goal
 

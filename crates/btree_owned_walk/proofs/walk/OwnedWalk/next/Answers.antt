@@ -1,5 +1,4 @@
-use Rattle.std.proofs.Common.{refl, arith, ◌∙◌, ap, ◌+◌, ◌-◌}
-use Rattle.btree_laws.specs.TreeState.{node_map}
+use Rattle.btree_owned_walk.proofs.Common.{refl, arith, ◌∙◌, ap, ◌+◌, ◌-◌, node_map}
 use Rattle.btree_owned_walk.proofs.LeavingLemmas.{front-stands, next-leaving, next-pair}
 use Rattle.btree_owned_walk.proofs.walk.OwnedWalk.next.Goals as goal
 

@@ -1,5 +1,4 @@
-use Rattle.std.proofs.Common.{refl, ap, arith, ◌-◌}
-use Rattle.btree_laws.specs.TreeState.{node_map}
+use Rattle.btree_owned_walk.proofs.Common.{refl, ap, arith, ◌-◌, node_map}
 use Rattle.btree_owned_walk.proofs.LeavingLemmas.{back-leaving, back-pair, back-stands}
 use Rattle.btree_owned_walk.proofs.walk.OwnedWalk.next_back.Goals as goal
 

@@ -1,4 +1,4 @@
-use Rattle.std.proofs.Common.{◌∙◌, ap, subst}
+use Rattle.btree_owned_walk.proofs.Common.{◌∙◌, ap, subst}
 use Rattle.btree_owned_walk.specs.Leaving.{HoldsLeft, nodes_left}
 use Rattle.btree_owned_walk.proofs.LeavingLemmas.{holds-left, leaving-count}
 use Rattle.btree_owned_walk.proofs.walk.OwnedWalk.node_count.Goals as goal

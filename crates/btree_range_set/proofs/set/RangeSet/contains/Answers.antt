@@ -1,5 +1,4 @@
-use Rattle.std.proofs.Common.{◌∙◌}
-use Rattle.btree_laws.specs.TreeState.{pairs_of}
+use Rattle.btree_range_set.proofs.Common.{◌∙◌, pairs_of}
 use Rattle.btree_range_set.proofs.PlaceLemmas.{around-told}
 use Rattle.btree_range_set.proofs.set.RangeSet.contains.Goals as goal
 

@@ -1,4 +1,4 @@
-use Rattle.std.proofs.lemmas.Result.{IfErr-weaker, on_ok_weaker}
+use Rattle.btree_range_set.proofs.Common.{IfErr-weaker, on_ok_weaker}
 use Rattle.btree_range_set.proofs.TwoSetLemmas.{removes-all, removes-below, removes-run}
 use Rattle.btree_range_set.proofs.set.RangeSet.difference_with.Goals as goal
 

@@ -1,4 +1,4 @@
-use Rattle.std.proofs.Common.{◌∙◌, ℕ}
+use Rattle.btree_range_set.proofs.Common.{◌∙◌, ℕ}
 use Rattle.btree_range_set.proofs.SeriesLemmas.{adds-more, grows-more}
 use Rattle.btree_range_set.proofs.set.RangeSet.extend.Goals as goal
 

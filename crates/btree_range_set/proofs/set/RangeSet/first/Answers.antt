@@ -1,4 +1,4 @@
-use Rattle.btree_laws.specs.TreeState.{pairs_of}
+use Rattle.btree_range_set.proofs.Common.{pairs_of}
 use Rattle.btree_range_set.proofs.QueryLemmas.{first-lowest}
 use Rattle.btree_range_set.proofs.set.RangeSet.first.Goals as goal
 

@@ -1,5 +1,4 @@
-use Rattle.std.proofs.Common.{refl}
-use Rattle.std.proofs.lemmas.Result.{IfErr-weaker, on_ok_weaker}
+use Rattle.btree_range_set.proofs.Common.{refl, IfErr-weaker, on_ok_weaker}
 use Rattle.btree_range_set.proofs.QueryLemmas.{none-last}
 use Rattle.btree_range_set.proofs.TwoSetLemmas.{both-refused, shares-all, shares-below, shares-gap}
 use Rattle.btree_range_set.proofs.set.RangeSet.intersect_with.Goals as goal

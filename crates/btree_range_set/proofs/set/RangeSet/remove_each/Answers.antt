@@ -1,4 +1,4 @@
-use Rattle.std.proofs.Common.{◌∙◌, ℕ}
+use Rattle.btree_range_set.proofs.Common.{◌∙◌, ℕ}
 use Rattle.btree_range_set.proofs.SeriesLemmas.{grows-more, removes-more}
 use Rattle.btree_range_set.proofs.set.RangeSet.remove_each.Goals as goal
 

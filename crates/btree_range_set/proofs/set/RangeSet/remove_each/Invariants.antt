@@ -1,8 +1,5 @@
-use Rattle.std.proofs.Common.{◌≡◌}
+use Rattle.btree_range_set.proofs.Common.{◌≡◌, GoesThrough, GrowsWithinLimit, IsDifferenceWith}
 use Rattle.std.specs.Iterator.{IsFinite, size}
-use Rattle.btree_range_set.specs.Series.{GoesThrough}
-use Rattle.btree_range_set.specs.State.{GrowsWithinLimit}
-use Rattle.btree_range_set.specs.TwoSets.{IsDifferenceWith}
 use Rattle.btree_range_set.proofs.set.RangeSet.remove_each.Given as goal
 
 abbrev pub invariant-loop-start : goal.invariant-loop-start

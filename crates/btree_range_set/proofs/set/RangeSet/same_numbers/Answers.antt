@@ -1,4 +1,4 @@
-use Rattle.btree_laws.specs.TreeState.{pairs_of}
+use Rattle.btree_range_set.proofs.Common.{pairs_of}
 use Rattle.btree_range_set.proofs.RangeLaws.{equal-numbers}
 use Rattle.btree_range_set.proofs.set.RangeSet.same_numbers.Goals as goal
 

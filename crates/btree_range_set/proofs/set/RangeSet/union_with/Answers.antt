@@ -1,4 +1,4 @@
-use Rattle.std.proofs.lemmas.Result.{IfErr-weaker, on_ok_weaker}
+use Rattle.btree_range_set.proofs.Common.{IfErr-weaker, on_ok_weaker}
 use Rattle.btree_range_set.proofs.TwoSetLemmas.{adds-all, adds-below, adds-run}
 use Rattle.btree_range_set.proofs.set.RangeSet.union_with.Goals as goal
 

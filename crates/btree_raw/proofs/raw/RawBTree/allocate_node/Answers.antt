@@ -1,8 +1,7 @@
 use Rattle.btree_raw.proofs.RawLemmas.{reparents, can-reparent_children}
 use Rattle.btree_raw.proofs.StateLemmas.{inserted, nodes-of, then}
 use Rattle.btree_raw.proofs.raw.RawBTree.allocate_node.Goals as goal
-use Rattle.std.proofs.lemmas.Grind.{common_steps}
-use Rattle.std.proofs.Common.{arith, rules}
+use Rattle.btree_raw.proofs.Common.{common_steps, arith, rules}
 
 pub reparent_children-requires : goal.reparent_children-requires
 reparent_children-requires g c = can-reparent_children c.args.self.now.nodes c.in-Ok.id c.args.node c.in-Ok.ensures.unused c.requires c.store_node.new.self.nodes (nodes-of c.in-Ok.ensures.stored)

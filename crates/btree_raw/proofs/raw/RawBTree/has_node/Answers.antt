@@ -1,6 +1,5 @@
 use Rattle.btree_raw.proofs.raw.RawBTree.has_node.Goals as goal
-use Rattle.std.proofs.lemmas.Grind.{common_steps}
-use Rattle.std.proofs.Common.{arith, rules}
+use Rattle.btree_raw.proofs.Common.{common_steps, arith, rules}
 
 pub get-requires : goal.get-requires
 get-requires g c = c.tell_fits.ensures

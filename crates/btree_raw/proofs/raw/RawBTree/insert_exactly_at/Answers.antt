@@ -1,6 +1,5 @@
-use Rattle.std.proofs.Common.{◌∙◌, sym, arith, rules}
+use Rattle.btree_raw.proofs.Common.{◌∙◌, sym, arith, rules, common_steps}
 use Rattle.btree_raw.proofs.raw.RawBTree.insert_exactly_at.Goals as goal
-use Rattle.std.proofs.lemmas.Grind.{common_steps}
 
 pub tell_fits-requires : goal.tell_fits-requires
 tell_fits-requires g c κs =

@@ -1,6 +1,6 @@
 use Rattle.btree_raw.proofs.RawLemmas.{off-found, no-root-off}
 use Rattle.btree_raw.proofs.raw.RawBTree.is_off_by_one.Goals as goal
-use Rattle.std.proofs.Common.{rules}
+use Rattle.btree_raw.proofs.Common.{rules}
 
 pub returns-in-Some : goal.returns-in-Some
 returns-in-Some g c = rw (← c.self.view_is) (off-found g.K.Ord.cmp _ c.args.id c.in-Some.root c.in-Some.is c.is_off_by_one.result c.is_off_by_one.ensures)

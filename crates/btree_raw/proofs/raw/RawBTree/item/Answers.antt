@@ -1,6 +1,5 @@
-use Rattle.std.proofs.Common.{None, sym, rules}
+use Rattle.btree_raw.proofs.Common.{None, sym, rules, view}
 use Rattle.btree_raw.proofs.StateLemmas.{found-occupied}
-use Rattle.btree_item.specs.declared.address.Address.TheView.{view}
 use Rattle.btree_raw.proofs.raw.RawBTree.item.Goals as goal
 use Rattle.btree_laws.proofs.Trees.Stores.{item-some, item-none}
 

@@ -1,6 +1,5 @@
-use Rattle.std.proofs.Common.{arith, rules}
+use Rattle.btree_raw.proofs.Common.{arith, rules, common_steps}
 use Rattle.btree_raw.proofs.raw.RawBTree.new.Goals as goal
-use Rattle.std.proofs.lemmas.Grind.{common_steps}
 
 pub empty-requires : goal.empty-requires
 empty-requires g c κs = search rules steps 200000

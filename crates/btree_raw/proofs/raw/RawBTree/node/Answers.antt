@@ -1,5 +1,4 @@
-use Rattle.std.proofs.lemmas.Grind.{common_steps}
-use Rattle.std.proofs.Common.{arith}
+use Rattle.btree_raw.proofs.Common.{common_steps, arith}
 use Rattle.btree_raw.proofs.raw.RawBTree.node.Goals as goal
 
 pub unreachable-requires : goal.unreachable-requires

@@ -1,7 +1,6 @@
 use Rattle.btree_raw.proofs.RebalanceLemmas.{off-used}
 use Rattle.btree_raw.proofs.raw.RawBTree.rebalance.Goals as goal
-use Rattle.std.proofs.lemmas.Grind.{common_steps}
-use Rattle.std.proofs.Common.{arith, rules}
+use Rattle.btree_raw.proofs.Common.{common_steps, arith, rules}
 
 pub node-requires : goal.node-requires
 node-requires g c = (c.tell_fits.ensures, off-used g.K.Ord.cmp g.met.K.Ord.total c.args.self.now c.args.id c.requires.off_by_one)

@@ -1,5 +1,4 @@
-use Rattle.std.proofs.lemmas.Grind.{common_steps}
-use Rattle.std.proofs.Common.{arith, rules}
+use Rattle.btree_raw.proofs.Common.{common_steps, arith, rules}
 use Rattle.btree_raw.proofs.raw.RawBTree.release_node.Goals as goal
 
 pub invariant_of-self : goal.invariant_of-self

@@ -1,4 +1,4 @@
-use Rattle.std.proofs.Common.{rules}
+use Rattle.btree_raw.proofs.Common.{rules}
 use Rattle.btree_raw.proofs.raw.RawBTree.store_node.Goals as goal
 use Rattle.btree_raw.proofs.ResultLemmas.{err-both, ok-both}
 

@@ -1,4 +1,4 @@
-use Rattle.std.proofs.Common.{ap, arith, refl, sym}
+use Rattle.btree_raw.proofs.Common.{ap, arith, refl, sym}
 use Rattle.btree_raw.proofs.raw.RawBTree.validate_node.Goals as goal
 
 pub returns-clause-accepts : goal.returns-clause-accepts

@@ -1,4 +1,4 @@
-use Rattle.std.proofs.Common.{◌∙◌}
+use Rattle.btree_session.proofs.Common.{◌∙◌}
 use Rattle.btree_session.proofs.Steps.{get-done}
 use Rattle.btree_session.proofs.session.Session+C.get.Goals as goal
 

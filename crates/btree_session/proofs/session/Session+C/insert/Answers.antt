@@ -1,4 +1,4 @@
-use Rattle.std.proofs.Common.{refl}
+use Rattle.btree_session.proofs.Common.{refl}
 use Rattle.btree_session.proofs.Steps.{insert-done, insert-refused}
 use Rattle.btree_session.proofs.session.Session+C.insert.Goals as goal
 

@@ -1,5 +1,4 @@
-use Rattle.std.proofs.Common.{refl, subst}
-use Rattle.btree_session.specs.Held.{HoldsBack}
+use Rattle.btree_session.proofs.Common.{refl, subst, HoldsBack}
 use Rattle.btree_session.proofs.Edits.{put-done, put-nowhere, put-refused, put-unfit}
 use Rattle.btree_session.proofs.session.Session+C.put.Goals as goal
 

@@ -1,5 +1,4 @@
-use Rattle.std.proofs.Common.{◌∙◌, refl}
-use Rattle.btree_laws.specs.TreeState.{pairs_of}
+use Rattle.btree_set.proofs.Common.{◌∙◌, refl, pairs_of}
 use Rattle.btree_set.proofs.KeyLemmas.{partial-keys}
 use Rattle.btree_set.proofs.comparison.BTreeSetPartialOrd.partial_cmp.Goals as goal
 

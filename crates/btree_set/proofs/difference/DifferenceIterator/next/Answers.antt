@@ -1,5 +1,4 @@
-use Rattle.std.proofs.Common.{◌∙◌, Some, ap, arith, drop, length, subst, sym}
-use Rattle.btree_set.specs.Merges.{difference}
+use Rattle.btree_set.proofs.Common.{◌∙◌, Some, ap, arith, drop, length, subst, sym, difference}
 use Rattle.btree_set.proofs.TurnLemmas.{Steps, along, empty, goes, headed, lacking-equal, lacking-greater, lacking-less, lacking-no-first, lacking-no-second, taken}
 use Rattle.btree_set.proofs.difference.DifferenceIterator.next.Goals as goal
 

@@ -1,5 +1,4 @@
-use Rattle.std.proofs.Common.{◌≡◌, ◌+◌, length}
-use Rattle.btree_set.specs.Merges.{difference}
+use Rattle.btree_set.proofs.Common.{◌≡◌, ◌+◌, length, difference}
 use Rattle.btree_set.proofs.difference.DifferenceIterator.next.Given as goal
 
 abbrev pub invariant-loop-left : goal.invariant-loop-left

@@ -1,4 +1,4 @@
-use Rattle.std.proofs.Common.{arith}
+use Rattle.btree_set.proofs.Common.{arith}
 use Rattle.btree_set.proofs.HintLemmas.{lacking-least, lacking-most}
 use Rattle.btree_set.proofs.difference.DifferenceIterator.size_hint.Goals as goal
 

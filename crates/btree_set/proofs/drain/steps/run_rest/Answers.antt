@@ -1,9 +1,6 @@
-use Rattle.std.proofs.Common.{◌≡◌, ◌≤◌, drop, length, slice_get, subst, sym}
-use Rattle.std.specs.Fn.{CalledAt, TakesAt}
+use Rattle.btree_set.proofs.Common.{◌≡◌, ◌≤◌, drop, length, slice_get, subst, sym, CalledAt, TakesAt, pairs_of, CallableOnEach, set_of}
 use Rattle.btree_laws.specs.TreeAddresses.{item_addresses_of}
-use Rattle.btree_laws.specs.TreeState.{pairs_of}
-use Rattle.btree_set.specs.Drain.{CallableOnEach, RunsOut}
-use Rattle.btree_set.specs.Elements.{set_of}
+use Rattle.btree_set.specs.Drain.{RunsOut}
 use Rattle.btree_set.proofs.DrainLemmas.{callable-pairs, drop-keys, runs-out-keys}
 use Rattle.btree_set.proofs.drain.steps.run_rest.Goals as goal
 

@@ -1,9 +1,6 @@
-use Rattle.std.proofs.Common.{◌≡◌, ◌≤◌, drop, length, slice_get, subst, sym}
-use Rattle.std.specs.Fn.{CalledAt, TakesAt}
+use Rattle.btree_set.proofs.Common.{◌≡◌, ◌≤◌, drop, length, slice_get, subst, sym, CalledAt, TakesAt, pairs_of, CallableOnEach, set_of}
 use Rattle.btree_laws.specs.TreeAddresses.{item_addresses_of}
-use Rattle.btree_laws.specs.TreeState.{pairs_of}
-use Rattle.btree_set.specs.Drain.{CallableOnEach, Yields}
-use Rattle.btree_set.specs.Elements.{set_of}
+use Rattle.btree_set.specs.Drain.{Yields}
 use Rattle.btree_set.proofs.DrainLemmas.{callable-keys, callable-pairs, drop-keys, yields-keys}
 use Rattle.btree_set.proofs.drain.steps.seek.Goals as goal
 

@@ -1,5 +1,4 @@
-use Rattle.std.proofs.Common.{◌∙◌, Some, ap, arith, drop, length, subst, sym}
-use Rattle.btree_set.specs.Merges.{intersection}
+use Rattle.btree_set.proofs.Common.{◌∙◌, Some, ap, arith, drop, length, subst, sym, intersection}
 use Rattle.btree_set.proofs.TurnLemmas.{Steps, empty, goes, headed, shared-equal, shared-greater, shared-less, shared-no-first, shared-no-second}
 use Rattle.btree_set.proofs.intersection.IntersectionIterator.next.Goals as goal
 

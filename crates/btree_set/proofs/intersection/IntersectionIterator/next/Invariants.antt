@@ -1,5 +1,4 @@
-use Rattle.std.proofs.Common.{◌≡◌, ◌+◌, length}
-use Rattle.btree_set.specs.Merges.{intersection}
+use Rattle.btree_set.proofs.Common.{◌≡◌, ◌+◌, length, intersection}
 use Rattle.btree_set.proofs.intersection.IntersectionIterator.next.Given as goal
 
 abbrev pub invariant-loop-left : goal.invariant-loop-left

@@ -1,4 +1,4 @@
-use Rattle.std.proofs.Common.{arith}
+use Rattle.btree_set.proofs.Common.{arith}
 use Rattle.btree_set.proofs.HintLemmas.{shared-most-first, shared-most-second}
 use Rattle.btree_set.proofs.intersection.IntersectionIterator.size_hint.Goals as goal
 

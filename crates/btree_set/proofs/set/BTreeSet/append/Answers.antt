@@ -1,7 +1,4 @@
-use Rattle.std.proofs.Common.{◌∙◌, ap}
-use Rattle.btree_laws.specs.TreeState.{pairs_of}
-use Rattle.std.specs.Map.{keys_of}
-use Rattle.btree_set.specs.Elements.{set_of}
+use Rattle.btree_set.proofs.Common.{◌∙◌, ap, pairs_of, keys_of, set_of}
 use Rattle.btree_set.proofs.KeyLemmas.{inserted_all-keys, moves-each-keys, moves-keys, none-keys, room-keys, turn-refused}
 use Rattle.btree_set.proofs.set.BTreeSet.append.Goals as goal
 

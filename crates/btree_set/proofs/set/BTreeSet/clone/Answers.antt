@@ -1,6 +1,5 @@
-use Rattle.std.proofs.Common.{subst}
+use Rattle.btree_set.proofs.Common.{subst, SetState}
 use Rattle.std.proofs.lemmas.Result.{err_from_is_err_and}
-use Rattle.btree_set.specs.Elements.{SetState}
 use Rattle.btree_set.proofs.set.BTreeSet.clone.Goals as goal
 
 pub returns-in_err-clone-clause-may_fail : goal.returns-in_err-clone-clause-may_fail

@@ -1,4 +1,4 @@
-use Rattle.btree_laws.specs.TreeState.{pairs_of}
+use Rattle.btree_set.proofs.Common.{pairs_of}
 use Rattle.btree_set.proofs.KeyLemmas.{some-keys}
 use Rattle.btree_set.proofs.set.BTreeSet.contains.Goals as goal
 

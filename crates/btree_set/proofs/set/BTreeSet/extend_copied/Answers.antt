@@ -1,8 +1,5 @@
-use Rattle.std.proofs.Common.{◌∙◌, ◌∷◌, [], IfSome, None, Some, ap, refl, subst}
-use Rattle.btree_map.specs.Ascending.{IsLastPair}
+use Rattle.btree_set.proofs.Common.{◌∙◌, ◌∷◌, [], IfSome, None, Some, ap, refl, subst, IsLastPair, SetState, inserted_all}
 use Rattle.btree_map.specs.CallerLaws.{last-pair}
-use Rattle.btree_set.specs.Elements.{SetState}
-use Rattle.btree_set.specs.Extension.{inserted_all}
 use Rattle.btree_set.proofs.KeyLemmas.{refused-elements}
 use Rattle.btree_set.proofs.set.BTreeSet.extend_copied.Goals as goal
 

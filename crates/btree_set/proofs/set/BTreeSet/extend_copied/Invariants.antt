@@ -1,6 +1,5 @@
-use Rattle.std.proofs.Common.{◌≡◌, IfSome}
+use Rattle.btree_set.proofs.Common.{◌≡◌, IfSome, IsLastPair}
 use Rattle.std.specs.Iterator.{IsFinite, size}
-use Rattle.btree_map.specs.Ascending.{IsLastPair}
 use Rattle.btree_set.specs.Extension.{Extends, copied_steps}
 use Rattle.btree_set.proofs.set.BTreeSet.extend_copied.Given as goal
 

@@ -1,5 +1,4 @@
-use Rattle.std.proofs.Common.{◌∙◌, ap, option_map, sym}
-use Rattle.btree_laws.specs.TreeState.{pairs_of}
+use Rattle.btree_set.proofs.Common.{◌∙◌, ap, option_map, sym, pairs_of}
 use Rattle.btree_set.proofs.KeyLemmas.{stored-keys}
 use Rattle.btree_set.proofs.set.BTreeSet.get_by.Goals as goal
 

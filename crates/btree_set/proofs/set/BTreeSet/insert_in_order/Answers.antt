@@ -1,8 +1,5 @@
-use Rattle.std.proofs.Common.{◌∙◌, IfSome, ap, subst, sym}
-use Rattle.std.specs.Map.{keys_of}
-use Rattle.btree_laws.specs.TreeState.{pairs_of}
-use Rattle.btree_map.specs.Ascending.{GoesLast, IsLastPair}
-use Rattle.btree_set.specs.Elements.{SetState}
+use Rattle.btree_set.proofs.Common.{◌∙◌, IfSome, ap, subst, sym, keys_of, pairs_of, IsLastPair, SetState}
+use Rattle.btree_map.specs.Ascending.{GoesLast}
 use Rattle.btree_set.proofs.KeyLemmas.{absent-keys, gap-refused, inserted-keys}
 use Rattle.btree_set.proofs.set.BTreeSet.insert_in_order.Goals as goal
 

@@ -1,4 +1,4 @@
-use Rattle.btree_laws.specs.TreeState.{pairs_of}
+use Rattle.btree_set.proofs.Common.{pairs_of}
 use Rattle.btree_set.proofs.KeyLemmas.{keys-none}
 use Rattle.btree_set.proofs.set.BTreeSet.is_empty.Goals as goal
 

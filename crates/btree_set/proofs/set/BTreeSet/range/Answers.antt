@@ -1,6 +1,4 @@
-use Rattle.std.proofs.Common.{◌∙◌, ap}
-use Rattle.btree_laws.specs.TreeState.{pairs_of}
-use Rattle.std.specs.Map.{keys_of}
+use Rattle.btree_set.proofs.Common.{◌∙◌, ap, pairs_of, keys_of}
 use Rattle.btree_set.proofs.KeyLemmas.{filter-keys}
 use Rattle.btree_set.proofs.set.BTreeSet.range.Goals as goal
 

@@ -1,8 +1,4 @@
-use Rattle.std.proofs.Common.{◌≡◌, ◌∙◌, ap, sym}
-use Rattle.btree_laws.specs.TreeState.{pairs_of}
-use Rattle.std.proofs.Common.{is_some}
-use Rattle.std.specs.Map.{keys_of}
-use Rattle.btree_set.specs.Elements.{stored}
+use Rattle.btree_set.proofs.Common.{◌≡◌, ◌∙◌, ap, sym, pairs_of, is_some, keys_of, stored}
 use Rattle.btree_set.proofs.KeyLemmas.{removed-keys, taken-nodes, there-keys}
 use Rattle.btree_set.proofs.set.BTreeSet.remove.Goals as goal
 

@@ -1,7 +1,4 @@
-use Rattle.std.proofs.Common.{◌∙◌, ap}
-use Rattle.std.specs.Map.{keys_of}
-use Rattle.btree_laws.specs.TreeState.{pairs_of}
-use Rattle.btree_set.specs.Elements.{set_of}
+use Rattle.btree_set.proofs.Common.{◌∙◌, ap, keys_of, pairs_of, set_of}
 use Rattle.btree_set.proofs.KeyLemmas.{filter-keys, same-units}
 use Rattle.btree_set.proofs.set.BTreeSet.remove_range.Goals as goal
 

@@ -1,6 +1,4 @@
-use Rattle.std.proofs.Common.{◌∙◌, ap, option_map, sym}
-use Rattle.btree_laws.specs.TreeState.{pairs_of}
-use Rattle.std.specs.Map.{keys_of}
+use Rattle.btree_set.proofs.Common.{◌∙◌, ap, option_map, sym, pairs_of, keys_of}
 use Rattle.btree_set.proofs.KeyLemmas.{absent-keys, gap-refused, replaced-keys, stored-keys}
 use Rattle.btree_set.proofs.set.BTreeSet.replace.Goals as goal
 

@@ -1,9 +1,6 @@
-use Rattle.std.proofs.Common.{subst, sym, true}
-use Rattle.std.specs.Fn.{CalledAt, TakesAt}
-use Rattle.btree_laws.specs.TreeState.{pairs_of}
+use Rattle.btree_set.proofs.Common.{subst, sym, true, CalledAt, TakesAt, pairs_of, CallableOnEach, set_of}
 use Rattle.btree_map.specs.Drain.{KeepsAddresses}
-use Rattle.btree_set.specs.Drain.{CallableOnEach, Selects}
-use Rattle.btree_set.specs.Elements.{set_of}
+use Rattle.btree_set.specs.Drain.{Selects}
 use Rattle.btree_set.proofs.DrainLemmas.{callable-pairs, selects-keys}
 use Rattle.btree_set.proofs.set.BTreeSet.retain.Goals as goal
 

@@ -1,5 +1,4 @@
-use Rattle.std.proofs.Common.{◌∙◌, refl}
-use Rattle.btree_laws.specs.TreeState.{pairs_of}
+use Rattle.btree_set.proofs.Common.{◌∙◌, refl, pairs_of}
 use Rattle.btree_set.proofs.KeyLemmas.{same-keys}
 use Rattle.btree_set.proofs.set.BTreeSet.same_items.Goals as goal
 

@@ -1,9 +1,6 @@
-use Rattle.std.proofs.Common.{◌∙◌, ◌∷◌, ap}
+use Rattle.btree_set.proofs.Common.{◌∙◌, ◌∷◌, ap, keys_of, pairs_of, set_of}
 use Rattle.std.proofs.lemmas.List.{map-append}
-use Rattle.std.specs.Map.{keys_of}
 use Rattle.std.specs.declared.ops.Bound.TheVariants.{Included}
-use Rattle.btree_laws.specs.TreeState.{pairs_of}
-use Rattle.btree_set.specs.Elements.{set_of}
 use Rattle.btree_set.proofs.KeyLemmas.{filter-keys, from-keys, same-units, turn-refused}
 use Rattle.btree_set.proofs.set.BTreeSet.split_off.Goals as goal
 

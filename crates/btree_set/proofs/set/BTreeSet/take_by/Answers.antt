@@ -1,6 +1,4 @@
-use Rattle.std.proofs.Common.{◌∙◌, ap, option_map, sym}
-use Rattle.std.specs.Map.{keys_of}
-use Rattle.btree_laws.specs.TreeState.{pairs_of}
+use Rattle.btree_set.proofs.Common.{◌∙◌, ap, option_map, sym, keys_of, pairs_of}
 use Rattle.btree_set.proofs.KeyLemmas.{removed-keys, stored-keys, taken-nodes-by}
 use Rattle.btree_set.proofs.set.BTreeSet.take_by.Goals as goal
 

@@ -1,5 +1,4 @@
-use Rattle.std.proofs.Common.{◌∙◌, Some, ap, arith, drop, length, subst, sym}
-use Rattle.btree_set.specs.Merges.{symmetric_difference}
+use Rattle.btree_set.proofs.Common.{◌∙◌, Some, ap, arith, drop, length, subst, sym, symmetric_difference}
 use Rattle.btree_set.proofs.TurnLemmas.{Steps, along, apart-equal, apart-greater, apart-less, apart-no-first, apart-no-second, empty, goes, headed, taken}
 use Rattle.btree_set.proofs.symmetric_difference.SymmetricDifferenceIterator.next.Goals as goal
 

@@ -1,5 +1,4 @@
-use Rattle.std.proofs.Common.{◌≡◌, ◌+◌, length}
-use Rattle.btree_set.specs.Merges.{symmetric_difference}
+use Rattle.btree_set.proofs.Common.{◌≡◌, ◌+◌, length, symmetric_difference}
 use Rattle.btree_set.proofs.symmetric_difference.SymmetricDifferenceIterator.next.Given as goal
 
 abbrev pub invariant-loop-left : goal.invariant-loop-left

@@ -1,4 +1,4 @@
-use Rattle.std.proofs.Common.{arith}
+use Rattle.btree_set.proofs.Common.{arith}
 use Rattle.btree_set.proofs.HintLemmas.{apart-most, up-to-sum}
 use Rattle.btree_set.proofs.symmetric_difference.SymmetricDifferenceIterator.size_hint.Goals as goal
 

@@ -1,5 +1,4 @@
-use Rattle.std.proofs.Common.{Some, drop}
-use Rattle.btree_set.specs.Merges.{union}
+use Rattle.btree_set.proofs.Common.{Some, drop, union}
 use Rattle.btree_set.proofs.TurnLemmas.{along, empty, goes, headed, taken, union-greater, union-less, union-no-first, union-no-second}
 use Rattle.btree_set.proofs.union.UnionIterator.next.Goals as goal
 

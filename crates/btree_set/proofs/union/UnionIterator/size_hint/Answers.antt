@@ -1,4 +1,4 @@
-use Rattle.std.proofs.Common.{arith}
+use Rattle.btree_set.proofs.Common.{arith}
 use Rattle.btree_set.proofs.HintLemmas.{up-to-sum, union-least, union-most}
 use Rattle.btree_set.proofs.union.UnionIterator.size_hint.Goals as goal
 

@@ -1,9 +1,5 @@
-use Rattle.std.proofs.Common.{◌++◌, ◌∙◌, ap, arith}
+use Rattle.btree_walk.proofs.Common.{◌++◌, ◌∙◌, ap, arith, fits-leaf, remaining_above, pairs_of, views, rows_of}
 use Rattle.std.specs.FinMap as map
-use Rattle.btree_node.proofs.NodeSizes.{fits-leaf}
-use Rattle.btree_laws.specs.Remaining.{remaining_above}
-use Rattle.btree_laws.specs.TreeState.{pairs_of, views}
-use Rattle.btree_walk.specs.Rows.{rows_of}
 use Rattle.btree_walk.proofs.EndLemmas.{ends-whole, whole-left}
 use Rattle.btree_walk.proofs.iter.Iter.new.Goals as goal
 

@@ -1,4 +1,4 @@
-use Rattle.std.proofs.Common.{arith}
+use Rattle.btree_walk.proofs.Common.{arith}
 use Rattle.btree_walk.proofs.EndLemmas.{ends-last, last-left, left-none, one-shorter}
 use Rattle.btree_walk.proofs.iter.IterDoubleEndedIterator.next_back.Goals as goal
 

@@ -1,9 +1,5 @@
-use Rattle.std.proofs.Common.{◌++◌, length, ap, ◌∙◌, arith}
+use Rattle.btree_walk.proofs.Common.{◌++◌, length, ap, ◌∙◌, arith, fits-leaf, remaining_above, views, rows_of}
 use Rattle.std.specs.FinMap as map
-use Rattle.btree_node.proofs.NodeSizes.{fits-leaf}
-use Rattle.btree_laws.specs.Remaining.{remaining_above}
-use Rattle.btree_laws.specs.TreeState.{views}
-use Rattle.btree_walk.specs.Rows.{rows_of}
 use Rattle.btree_walk.proofs.EndLemmas.{ends-first, first-left, none-ahead}
 use Rattle.btree_walk.proofs.IterLemmas.{next-above}
 use Rattle.btree_walk.proofs.iter.IterIterator.next.Goals as goal

@@ -1,9 +1,5 @@
-use Rattle.std.proofs.Common.{◌++◌, ◌∙◌, ap, arith, subst, sym, true}
-use Rattle.btree_node.proofs.NodeSizes.{fits-leaf}
-use Rattle.btree_laws.specs.TreeState.{pairs_of}
-use Rattle.btree_laws.proofs.LookUp.KeyInList.{ascends, rises}
-use Rattle.btree_walk.specs.Bounds.{bound_key}
-use Rattle.btree_walk.specs.Ranges.{IsAhead, ahead_of, from_first, left_until, pair_now}
+use Rattle.btree_walk.proofs.Common.{◌++◌, ◌∙◌, ap, arith, subst, sym, true, fits-leaf, pairs_of, ascends, rises, bound_key, ahead_of, from_first, left_until, pair_now}
+use Rattle.btree_walk.specs.Ranges.{IsAhead}
 use Rattle.btree_walk.specs.Rows.{remaining_in_ancestors}
 use Rattle.btree_walk.proofs.RangeLemmas.{begins, begins-ahead, begins-behind, begins-rises}
 use Rattle.btree_walk.proofs.range.Range.new.Goals as goal

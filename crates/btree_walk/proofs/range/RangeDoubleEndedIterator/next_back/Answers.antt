@@ -1,8 +1,5 @@
-use Rattle.std.proofs.Common.{Some, false, ap, arith, length, refl, subst}
-use Rattle.std.proofs.lemmas.List.{length_push}
-use Rattle.btree_laws.specs.TreeState.{pairs_of}
-use Rattle.btree_laws.proofs.LookUp.KeyInList.{rises}
-use Rattle.btree_walk.specs.Ranges.{IsBehind, behind_in, from_first, left_until, pair_now}
+use Rattle.btree_walk.proofs.Common.{Some, false, ap, arith, length, refl, subst, length_push, pairs_of, rises, from_first, left_until, pair_now}
+use Rattle.btree_walk.specs.Ranges.{IsBehind, behind_in}
 use Rattle.btree_walk.specs.Rows.{remaining_after}
 use Rattle.btree_walk.proofs.RangeLemmas.{gives-back, none-back, passes-back}
 use Rattle.btree_walk.proofs.range.RangeDoubleEndedIterator.next_back.Goals as goal

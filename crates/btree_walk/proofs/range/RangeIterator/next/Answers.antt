@@ -1,7 +1,4 @@
-use Rattle.std.proofs.Common.{◌∷◌, ◌∙◌, ap, arith, length, sym}
-use Rattle.btree_laws.specs.TreeState.{pairs_of}
-use Rattle.btree_laws.proofs.LookUp.KeyInList.{rises}
-use Rattle.btree_walk.specs.Ranges.{pair_now}
+use Rattle.btree_walk.proofs.Common.{◌∷◌, ◌∙◌, ap, arith, length, sym, pairs_of, rises, pair_now}
 use Rattle.btree_walk.specs.Rows.{remaining_after}
 use Rattle.btree_walk.proofs.RangeLemmas.{meets-after, meets-front, none-left, passes-front, steps-front}
 use Rattle.btree_walk.proofs.range.RangeIterator.next.Goals as goal

@@ -1,5 +1,4 @@
-use Rattle.std.proofs.Common.{arith, rules, append-nil, ◌∙◌, refl}
-use Rattle.btree_node.proofs.NodeSizes.{fits-leaf}
+use Rattle.btree_walk.proofs.Common.{arith, rules, append-nil, ◌∙◌, refl, fits-leaf}
 use Rattle.btree_walk.proofs.walks.Back.last_above.Goals as goal
 
 pub previous_above-requires : goal.previous_above-requires

@@ -1,7 +1,4 @@
-use Rattle.std.proofs.Common.{sym, subst, ◌∙◌}
-use Rattle.btree_laws.specs.TreeState.{pairs_of}
-use Rattle.btree_laws.proofs.LookUp.KeyInList.{rises}
-use Rattle.btree_walk.specs.Ranges.{IsLastOf, behind_of, pair_now}
+use Rattle.btree_walk.proofs.Common.{sym, subst, ◌∙◌, pairs_of, rises, IsLastOf, behind_of, pair_now}
 use Rattle.btree_walk.proofs.BoundLemmas.{before-key, before-none, before-other}
 use Rattle.btree_walk.proofs.walks.Back.last_before.Goals as goal
 

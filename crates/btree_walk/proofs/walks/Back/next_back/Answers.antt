@@ -1,4 +1,4 @@
-use Rattle.std.proofs.Common.{arith, append_assoc, sym, ◌∷◌, []}
+use Rattle.btree_walk.proofs.Common.{arith, append_assoc, sym, ◌∷◌, []}
 use Rattle.btree_walk.specs.Preceding.{preceding_in_ancestors}
 use Rattle.btree_walk.specs.Rows.{run_left}
 use Rattle.btree_walk.proofs.walks.Back.next_back.Goals as goal

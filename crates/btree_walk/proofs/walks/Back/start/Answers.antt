@@ -1,5 +1,4 @@
-use Rattle.std.proofs.Common.{arith, rules}
-use Rattle.btree_node.proofs.NodeSizes.{fits-leaf}
+use Rattle.btree_walk.proofs.Common.{arith, rules, fits-leaf}
 use Rattle.btree_walk.proofs.walks.Back.start.Goals as goal
 
 pub end-kept-requires : goal.end-kept-requires

@@ -1,5 +1,4 @@
-use Rattle.std.proofs.Common.{arith}
-use Rattle.btree_node.proofs.NodeSizes.{fits-leaf}
+use Rattle.btree_walk.proofs.Common.{arith, fits-leaf}
 use Rattle.btree_walk.proofs.walks.Back.start_at.Goals as goal
 
 pub end_at-kept-requires : goal.end_at-kept-requires

@@ -1,9 +1,4 @@
-use Rattle.std.proofs.Common.{sym, subst, ◌∙◌}
-use Rattle.std.specs.BTreeMap.Range.{entries_between}
-use Rattle.std.specs.declared.ops.Bound.TheVariants.{Unbounded}
-use Rattle.btree_laws.specs.TreeState.{pairs_of}
-use Rattle.btree_walk.specs.Bounds.{bound_key}
-use Rattle.btree_walk.specs.Ranges.{IsFirstOf, ahead_of, pair_now}
+use Rattle.btree_walk.proofs.Common.{sym, subst, ◌∙◌, entries_between, Unbounded, pairs_of, bound_key, IsFirstOf, ahead_of, pair_now}
 use Rattle.btree_walk.proofs.BoundLemmas.{between-all}
 use Rattle.btree_walk.proofs.walks.Front.first.Goals as goal
 

@@ -1,7 +1,4 @@
-use Rattle.std.proofs.Common.{sym, subst, ◌∙◌}
-use Rattle.btree_laws.specs.TreeState.{pairs_of}
-use Rattle.btree_laws.proofs.LookUp.KeyInList.{rises}
-use Rattle.btree_walk.specs.Ranges.{IsFirstOf, ahead_of, pair_now}
+use Rattle.btree_walk.proofs.Common.{sym, subst, ◌∙◌, pairs_of, rises, IsFirstOf, ahead_of, pair_now}
 use Rattle.btree_walk.proofs.BoundLemmas.{after-key, after-none, after-other}
 use Rattle.btree_walk.proofs.walks.Front.first_after.Goals as goal
 

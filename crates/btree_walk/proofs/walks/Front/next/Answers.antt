@@ -1,5 +1,4 @@
-use Rattle.std.proofs.Common.{arith}
-use Rattle.btree_node.proofs.NodeSizes.{fits-leaf}
+use Rattle.btree_walk.proofs.Common.{arith, fits-leaf}
 use Rattle.btree_walk.proofs.walks.Front.next.Goals as goal
 
 pub next_in_leaf-requires : goal.next_in_leaf-requires

@@ -1,5 +1,4 @@
-use Rattle.std.proofs.Common.{arith}
-use Rattle.btree_node.proofs.NodeSizes.{fits-leaf}
+use Rattle.btree_walk.proofs.Common.{arith, fits-leaf}
 use Rattle.btree_walk.proofs.walks.Front.start_from.Goals as goal
 
 pub start_from-passed-requires : goal.start_from-passed-requires

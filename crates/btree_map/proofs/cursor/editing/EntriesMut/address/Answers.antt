@@ -1,8 +1,5 @@
-use Rattle.std.proofs.Common.{◌≡◌, ◌∙◌, ap, arith, length, length-take, slice_get}
-use Rattle.btree_laws.specs.TreeAddresses.{item_addresses_of}
-use Rattle.btree_laws.specs.TreeState.{pairs_of}
-use Rattle.btree_map.specs.Editing.{entry_front, passed_of}
-use Rattle.btree_map.specs.SpanLaws.{index-within}
+use Rattle.btree_map.proofs.Common.{◌≡◌, ◌∙◌, ap, arith, length, slice_get, item_addresses_of, pairs_of, entry_front, passed_of, index-within}
+use Rattle.std.proofs.Common.{length-take}
 use Rattle.btree_map.proofs.EditingLemmas.{counted}
 use Rattle.btree_map.proofs.cursor.editing.EntriesMut.address.Goals as goal
 

@@ -1,5 +1,4 @@
-use Rattle.std.proofs.Common.{sym}
-use Rattle.btree_laws.specs.TreeAddresses.{item_addresses_of}
+use Rattle.btree_map.proofs.Common.{sym, item_addresses_of}
 use Rattle.btree_map.proofs.IndexLemmas.{index-is}
 use Rattle.btree_map.proofs.KnownLemmas.{known-one}
 use Rattle.btree_map.proofs.RangeStarts.{once}

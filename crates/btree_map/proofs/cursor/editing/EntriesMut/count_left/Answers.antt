@@ -1,6 +1,4 @@
-use Rattle.std.proofs.Common.{arith, length-drop}
-use Rattle.btree_laws.specs.TreeState.{pairs_of}
-use Rattle.btree_map.specs.Editing.{entry_front}
+use Rattle.btree_map.proofs.Common.{arith, length-drop, pairs_of, entry_front}
 use Rattle.btree_map.proofs.cursor.editing.EntriesMut.count_left.Goals as goal
 
 pub returns-in_default : goal.returns-in_default

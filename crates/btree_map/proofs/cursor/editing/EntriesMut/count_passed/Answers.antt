@@ -1,8 +1,4 @@
-use Rattle.std.proofs.Common.{arith, length-drop}
-use Rattle.btree_laws.specs.TreeAddresses.{item_addresses_of}
-use Rattle.btree_laws.specs.TreeState.{pairs_of}
-use Rattle.btree_map.specs.Editing.{entry_front}
-use Rattle.btree_map.specs.SpanLaws.{index-within}
+use Rattle.btree_map.proofs.Common.{arith, length-drop, item_addresses_of, pairs_of, entry_front, index-within}
 use Rattle.btree_map.proofs.EditingLemmas.{counted}
 use Rattle.btree_map.proofs.cursor.editing.EntriesMut.count_passed.Goals as goal
 

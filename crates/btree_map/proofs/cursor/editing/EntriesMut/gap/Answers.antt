@@ -1,6 +1,4 @@
-use Rattle.btree_laws.specs.TreeAddresses.{item_addresses_of}
-use Rattle.btree_map.specs.Editing.{entry_front}
-use Rattle.btree_map.specs.SpanLaws.{index-within}
+use Rattle.btree_map.proofs.Common.{item_addresses_of, entry_front, index-within}
 use Rattle.btree_map.proofs.EditingLemmas.{at-back, at-place, at-valid, end-place}
 use Rattle.btree_map.proofs.cursor.editing.EntriesMut.gap.Goals as goal
 

@@ -1,9 +1,4 @@
-use Rattle.std.proofs.Common.{◌≡◌, ◌∙◌, ◌+◌, arith, refl, take, drop, ap}
-use Rattle.btree_laws.specs.TreeAddresses.{item_addresses_of}
-use Rattle.btree_laws.specs.TreeState.{pairs_of}
-use Rattle.btree_map.specs.Editing.{entry_front}
-use Rattle.btree_map.specs.SpanLaws.{index-within}
-use Rattle.btree_map.specs.Spans.{item_index}
+use Rattle.btree_map.proofs.Common.{◌≡◌, ◌∙◌, ◌+◌, arith, refl, take, drop, ap, item_addresses_of, pairs_of, entry_front, index-within, item_index}
 use Rattle.btree_map.proofs.EditingLemmas.{counted, insert-left, insert-next, insert-passed, insert-within, fits-at}
 use Rattle.btree_map.proofs.IndexLemmas.{index-is}
 use Rattle.btree_map.proofs.KnownLemmas.{known-below, known-more}

@@ -1,4 +1,4 @@
-use Rattle.btree_map.specs.Editing.{entry_front}
+use Rattle.btree_map.proofs.Common.{entry_front}
 use Rattle.btree_map.proofs.EditingLemmas.{none-is, none-left, some-left}
 use Rattle.btree_map.proofs.cursor.editing.EntriesMut.is_empty.Goals as goal
 

@@ -1,8 +1,5 @@
-use Rattle.std.proofs.Common.{◌∙◌, ◌+◌, arith, refl}
-use Rattle.btree_laws.specs.TreeAddresses.{item_addresses_of}
-use Rattle.btree_laws.specs.TreeState.{pairs_of}
-use Rattle.btree_map.specs.Editing.{entry_front, next_of}
-use Rattle.btree_map.specs.Spans.{item_index}
+use Rattle.btree_map.proofs.Common.{◌∙◌, ◌+◌, arith, refl, item_addresses_of, pairs_of, entry_front, item_index}
+use Rattle.btree_map.specs.Editing.{next_of}
 use Rattle.btree_map.proofs.CursorLemmas.{stands-next, stands-pair, stands-state, stands-written}
 use Rattle.btree_map.proofs.EditingLemmas.{at-within, counted, left-some}
 use Rattle.btree_map.proofs.EditingLists.{drop-first}

@@ -1,8 +1,4 @@
-use Rattle.std.proofs.Common.{◌≡◌, ◌∙◌, ◌+◌, ◌∷◌, ap, arith, drop, refl, sym, take}
-use Rattle.btree_laws.specs.TreeAddresses.{item_addresses_of}
-use Rattle.btree_laws.specs.TreeState.{pairs_of}
-use Rattle.btree_map.specs.Editing.{entry_front}
-use Rattle.btree_map.specs.Spans.{item_index}
+use Rattle.btree_map.proofs.Common.{◌≡◌, ◌∙◌, ◌+◌, ◌∷◌, ap, arith, drop, refl, sym, take, item_addresses_of, pairs_of, entry_front, item_index}
 use Rattle.btree_map.proofs.EditingLemmas.{at-within, counted, left-some}
 use Rattle.btree_map.proofs.EditingLists.{pass-cut}
 use Rattle.btree_map.proofs.IndexLemmas.{index-is}

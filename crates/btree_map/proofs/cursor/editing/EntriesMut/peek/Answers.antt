@@ -1,5 +1,4 @@
-use Rattle.std.proofs.Common.{◌∙◌}
-use Rattle.btree_map.specs.Editing.{entry_front}
+use Rattle.btree_map.proofs.Common.{◌∙◌, entry_front}
 use Rattle.btree_map.proofs.EditingLemmas.{at-first, past-first}
 use Rattle.btree_map.proofs.cursor.editing.EntriesMut.peek.Goals as goal
 

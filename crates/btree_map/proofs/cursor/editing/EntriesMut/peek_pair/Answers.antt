@@ -1,5 +1,4 @@
-use Rattle.std.proofs.Common.{◌∙◌, refl}
-use Rattle.btree_map.specs.Editing.{entry_front}
+use Rattle.btree_map.proofs.Common.{◌∙◌, refl, entry_front, pairs_of}
 use Rattle.btree_map.proofs.CursorLemmas.{stands-pair, stands-state, stands-written}
 use Rattle.btree_map.proofs.EditingLemmas.{at-occupied, left-some}
 use Rattle.btree_map.proofs.EditingLists.{drop-first}
@@ -7,7 +6,6 @@ use Rattle.btree_map.proofs.EditingSteps.{writes-peeked}
 use Rattle.btree_map.proofs.KnownLemmas.{known-written}
 use Rattle.btree_map.proofs.RangeSteps.{again-first}
 use Rattle.btree_map.proofs.SameEditing.{same_editing}
-use Rattle.btree_laws.specs.TreeState.{pairs_of}
 use Rattle.btree_map.proofs.cursor.editing.EntriesMut.peek_pair.Goals as goal
 
 pub unreachable-requires : goal.unreachable-requires

@@ -1,5 +1,4 @@
-use Rattle.std.proofs.Common.{drop, refl}
-use Rattle.std.specs.Fn.{CalledAt}
+use Rattle.btree_set.proofs.Common.{drop, refl, CalledAt}
 use Rattle.btree_set.specs.Drain.{IsDraining}
 use Rattle.btree_set.proofs.DrainLemmas.{fewer-left, goes-on}
 use Rattle.btree_set.proofs.drain.set.DrainFilterIterator.next.Goals as goal
