@@ -1,5 +1,5 @@
 -- The names that the proofs of this crate cite everywhere, passed on from one place. Declares nothing.
-pub use Rattle.std.proofs.Common.{◌<◌, ◌≤◌, ◌+◌, ℕ, inl, inr, List, [], Option, Some, None, arith, ◌≡◌, length, ap, sym, subst, Result, Ok, Err, ◌≢◌, ◌∙◌, ◌^◌, ◌-◌, ◌∷◌, IfSome, IsSome, refl, is_some, if◌then◌else◌, option_map, zero, suc, set, option_and_then, slice_get, IsTrue, IsSomeAnd, rules}
+pub use Rattle.std.proofs.Common.{unwrap_or, ◌<◌, ◌≤◌, ◌+◌, ℕ, inl, inr, List, [], Option, Some, None, arith, ◌≡◌, length, ap, sym, subst, Result, Ok, Err, ◌≢◌, ◌∙◌, ◌^◌, ◌-◌, ◌∷◌, IfSome, IsSome, refl, is_some, if◌then◌else◌, option_map, zero, suc, set, option_and_then, slice_get, IsTrue, IsSomeAnd, rules}
 pub use Rattle.std.proofs.lemmas.Grind.{common_steps}
 pub use Rattle.std.proofs.lemmas.Option.{slice_get_within}
 pub use Rattle.std.proofs.lemmas.Result.{IfErr-weaker, IfOk-weaker}
