@@ -7,6 +7,11 @@ USE = re.compile(r"\buse Rattle\.(btree_\w+)\.((?:specs|proofs)\.[\w.+]+?)(?:\.\
 PASSED_ON = re.compile(r"^pub use Rattle\.(btree_\w+)\.((?:specs|proofs)\.[\w.+]+?)(?: as (\w+))?$", re.M)
 LAW = re.compile(r"^( *)pub ((?:[\w◌≡≤<]+-)+[\w◌≡≤<-]+) :")
 SHORTER = re.compile(r" g g' g'' s s'|\.Denot\b|(?<=Type) \d\b")
+USUAL = {
+    "cmp": "K → K → Ordering", "s": "TreeState K V", "old": "TreeState K V", "new": "TreeState K V", "a": "Address", "b": "Address",
+    "k": "K", "x": "K × V", "id": "ℕ", "place": "ℕ", "index": "ℕ", "levels": "ℕ", "value": "V", "was": "V", "is": "V", "w": "V",
+    "K": "RattleType", "V": "RattleType", "C": "RattleType", "O": "RattleType", "cause": "Cause", "MayRefuse": "Content (Node K V) → Type",
+}
 WORD = re.compile(r"^( *)(?:abbrev pub|pub record|pub data) (\S+) (.*)$")
 
 
@@ -90,6 +95,12 @@ def explicit(text):
     return " → ".join(it.strip().removeprefix("→ ") for it in parts)
 
 
+def usual(binder):
+    """A list of parameters with one type, without the type if it is the usual one of these names."""
+    names, of = binder.group(1), binder.group(2)
+    return names if all(USUAL.get(name) == of for name in names.split()) else binder.group()
+
+
 def words_of(path):
     """The words that a file of specs defines: for each its signature without implicit arguments, and its comment."""
     lines, modules, found = read(path).splitlines(), [], {}
@@ -116,8 +127,9 @@ def words_of(path):
         text = text.removesuffix(" where")
         own, _, of = text.rpartition(": ") if line.strip().startswith("pub ") else text.partition(": ")
         given = " ".join(it for it in (*(it[1] for it in modules), explicit(own)) if it)
-        signature = word.group(2) + (f" {given}" if given else "") + f" : {explicit(of)}"
-        found[word.group(2)] = (SHORTER.sub("", signature), comment_above(lines, at))
+        given = re.sub(r"\(([\w ]+) : ((?:[^()]|\([^()]*\))*)\)", usual, SHORTER.sub("", given))
+        signature = word.group(2) + (f" {given}" if given else "") + f" : {SHORTER.sub('', explicit(of))}"
+        found[word.group(2)] = (signature, comment_above(lines, at))
     return found
 
 
