@@ -92,7 +92,7 @@ def explicit(text):
         kept += "" if depth else sign
         depth -= sign == "}"
     parts = [it for it in re.sub(r"\s+", " ", kept).strip().split(" → ") if it.strip()]
-    return " → ".join(it.strip().removeprefix("→ ") for it in parts).replace(" )", ")")
+    return " → ".join(it.strip().removeprefix("→ ") for it in parts).replace(" )", ")").replace("(Unit)", "Unit")
 
 
 def usual(binder):
