@@ -110,8 +110,8 @@ pub trait BTreeExtMut<K: Ord + Drop, V: Drop>: BTreeExt<K, V> {
     /// Removes the item at an address. Returns it, with a back address at the place where it was; its key fits there, so `insert_at` can
     /// put it back. Returns `None`, and nothing changes, if there is no item: at -1, past the last item of a node, or nowhere.
     ///
-    /// The address must be valid: `is_valid` decides that. It frees at most as many nodes as the tree has levels. An item
-    /// of an internal node is replaced with the last one under the child before it.
+    /// The address must be valid: `is_valid` decides that. It frees at most as many nodes as the tree has levels. An item of an internal
+    /// node is replaced with the last one under the child before it.
     fn remove_at(&mut self, addr: Address) -> Option<(Item<K, V>, Address)>
         requires { IsValidIn (Self.state self.old) addr }
         ensures removed { IfSome result (λ r. IsRemoved Self.state self.old self.new K.cmp addr r.0 r.1) }
