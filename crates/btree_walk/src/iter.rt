@@ -99,10 +99,10 @@ fn step_back<'a, K: Ord + 'a, V: 'a, C: NodesMut<K, V> + 'a>(
     last
 }
 
-/// An iterator over the pairs of a tree in the order of the keys, from both ends, seen by contracts as the list of those that are left.
-/// A whole walk from the front fetches each node from the store once. One from the back fetches the path to the first
-/// leaf once more, where the iterator is made. A step inside a leaf reads that leaf alone. From the back, a step to another leaf may fetch all
-/// leaves before it that have the same parent, at most seven, for the steps to come.
+/// An iterator over the pairs of a tree in the order of the keys, from both ends, seen by contracts as the list of those that are left. A
+/// whole walk from the front fetches each node from the store once. One from the back fetches the path to the first leaf once more, where
+/// the iterator is made. A step inside a leaf reads that leaf alone. From the back, a step to another leaf may fetch all leaves before it
+/// that have the same parent, at most seven, for the steps to come.
 #[derive(Drop)]
 pub struct Iter<'a, K: Ord, V, C: NodesMut<K, V>> {
     tree: &'a Tree<K, V, C>,
