@@ -5,6 +5,7 @@ pub mod FirstLemmas
 pub mod MoreLemmas
 pub mod LevelLemmas
 pub mod RoomLemmas
+pub mod WrittenLaws
 pub mod ExchangeLemmas
 pub mod InsertLemmas
 pub mod KeyWrittenLemmas

@@ -12,4 +12,5 @@ pub mod StretchLemmas
 pub mod StepLemmas
 pub mod BackLemmas
 pub mod LeafLemmas
+pub mod LeavingLaws
 pub mod LeavingLemmas

@@ -6,7 +6,7 @@ ghost use Rattle.btree_raw.specs.Steps.{HasParent};
 ghost use Rattle.btree_raw.specs.Insertion.{InsertsExactly, IsFull, IsOffByOneWith, IsRefused, IsVacant};
 
 use crate::claims::{ClaimedIds, claim, claim_one};
-use crate::need::split_need_above;
+use crate::needs::split_need_above;
 use crate::node_changes::put;
 use crate::raw::RawBTree;
 use crate::rebalance::rebalance_fetched;
