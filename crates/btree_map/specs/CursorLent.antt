@@ -27,6 +27,7 @@ module _ (K V C O : RattleType) {g : ord.Ghosts K.Denot} {g' : eq.Ghosts K.Denot
     abbrev pub lends_front : Fml
     lends_front = Lends (iter_row (record { mir = named 1; lft = [] }) K V C O g g' g'' s s') V c value (past_front c.now)
 
+    -- the value at the back is lent: what is written is in the map, and the pair is passed
     abbrev pub lends_back : Fml
     lends_back = Lends (iter_row (record { mir = named 1; lft = [] }) K V C O g g' g'' s s') V c value (past_back c.now)
 
@@ -35,6 +36,7 @@ module _ (K V C O : RattleType) {g : ord.Ghosts K.Denot} {g' : eq.Ghosts K.Denot
     abbrev pub lends_first_in_range : Fml
     lends_first_in_range = Lends (range_row (record { mir = named 1; lft = [] }) K V C O g g' g'' s s') V c value (range.past_first c.now)
 
+    -- the value at the back of a range is lent
     abbrev pub lends_last_in_range : Fml
     lends_last_in_range = Lends (range_row (record { mir = named 1; lft = [] }) K V C O g g' g'' s s') V c value (range.past_last c.now)
 

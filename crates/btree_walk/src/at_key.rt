@@ -26,8 +26,8 @@ fn items_below<K: Ord, V>(node: &Node<K, V>, key: &K) -> (usize, Option<usize>)
     }
 }
 
-/// Returns where a forward walk is that has passed the items with keys below `key`: a leaf and how many of its items are passed. It puts
-/// the internal nodes above into the empty list of ancestors.
+/// Starts a forward walk behind the items with keys below `key`. Returns the leaf there, and how many of its items are passed. The internal
+/// nodes above it go into the empty list of ancestors.
 pub(crate) fn start_from<'a, K: Ord + 'a, V: 'a, C: NodesMut<K, V> + 'a>(
     tree: &'a Tree<K, V, C>,
     key: &K,
@@ -74,8 +74,8 @@ fn items_up_to<K: Ord, V>(node: &Node<K, V>, key: &K) -> (usize, Option<usize>)
     }
 }
 
-/// Returns where a backward walk is that has passed the items with keys above `key`: a leaf and how many of its items are not passed. It puts
-/// the internal nodes above into the empty list of ancestors.
+/// Starts a backward walk before the items with keys above `key`. Returns the leaf there, and how many of its items are left. The internal
+/// nodes above it go into the empty list of ancestors.
 pub(crate) fn end_at<'a, K: Ord + 'a, V: 'a, C: NodesMut<K, V> + 'a>(
     tree: &'a Tree<K, V, C>,
     key: &K,
