@@ -1,6 +1,6 @@
 -- The elements that an iterator shows before it gives them.
 use Rattle.btree_set.proofs.Common.{◌≡◌, ◌∙◌, ◌<◌, [], List, Option, None, Some, length, sym, arith, IsStrictlySortedBy, Ordering}
-use Rattle.std.proofs.Common.{◌^◌, IfNone, option_copied}
+use Rattle.std.proofs.Common.{◌^◌, ◌↔◌, Bool, true, false, not, IfNone, IsTrue, is_some, option_copied, refl}
 use Rattle.std.specs.Borrow.{Bor}
 use Rattle.std.specs.Iterator.{YieldsFirstRef}
 use Rattle.std.specs.List.{cons_option}
@@ -32,3 +32,11 @@ module _ {T : Type 0} where
     rw (rest-is rest new r steps) (sorted-rest cmp (option_copied head) rest up),
     rw (rest-is rest new r steps) (shorter (option_copied head) rest few),
   )
+
+-- where an iterator yields `None`, nothing was left, and only there
+pub none-yields : {T : Type 0} (rest new : List T) (r : Option (Bor T)) → YieldsFirstRef (λ rest. rest) rest r new → (is : Bool) → is_some r ≡ not is
+    → IsTrue is ↔ (rest ≡ [])
+none-yields rest new None steps true told = (λ yes. steps.0, λ empty. refl)
+none-yields rest new None steps false told = absurd (cc)
+none-yields rest new (Some x) steps true told = absurd (cc)
+none-yields rest new (Some x) steps false told = (λ yes. absurd (cc), λ empty. absurd (let e = steps in cc))
