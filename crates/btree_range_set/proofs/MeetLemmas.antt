@@ -1,14 +1,16 @@
 -- The ranges that have one of some numbers: those that start between two bounds.
 use Rattle.btree_range_set.proofs.Common.{◌≡◌, ◌≤◌, ◌<◌, ◌∙◌, ℕ, zero, suc, max, Bool, true, false, not, ◌&&◌, List, [], ◌∷◌, slice_get, Some, refl, sym, ap, subst, arith, ◌⊎◌, inl, inr, cases_lt, le-ltb, lt-ltb, nat_cmp, same_Some, within-from, within-high, within-low, IsRangeAround, AreRuns, AreRunsFrom, has_number, ranges_meeting}
-use Rattle.std.proofs.Common.{min, cond, Ordering}
+use Rattle.std.proofs.Common.{IsFalse, IsTrue, None, Option, min, cond, is_some, Ordering}
 use Rattle.std.proofs.lemmas.Bool.{and_left, cases_order}
 use Rattle.std.proofs.lemmas.Cmp.{ranked}
 use Rattle.std.specs.BTreeMap.Range.{entries_between, range_contains}
 use Rattle.std.specs.List.{filter}
+use Rattle.std.specs.Iterator.{YieldsFirst}
 use Rattle.std.specs.Ordering.{is_le}
 use Rattle.std.specs.declared.cmp.Ordering.TheVariants.{Equal, Greater, Less}
 use Rattle.std.specs.declared.ops.Bound.TheVariants.{Included, Excluded}
-use Rattle.btree_range_set.specs.Ranges.{meets}
+use Rattle.btree_range_set.specs.CallerLaws.{none-meet, some-meet}
+use Rattle.btree_range_set.specs.Ranges.{Overlaps, OverlapsNone, meets, ranges_meeting}
 use Rattle.btree_range_set.proofs.RunLemmas.{has-here, run-at}
 
 -- ---- comparisons of numbers
@@ -118,3 +120,11 @@ module _ (xs : List (ℕ × ℕ)) (runs : AreRuns xs) (s e : ℕ) where
       and-not : (b : Bool) → (b && not b) ≡ false
       and-not true = refl
       and-not false = refl
+
+-- whether the first of the ranges that meet numbers is there tells whether one of these numbers is in the set
+pub first-tells : (start end : ℕ) (xs rest new : List (ℕ × ℕ)) (r : Option (ℕ × ℕ)) → rest ≡ ranges_meeting start end xs → YieldsFirst (λ rest. rest) rest r new
+    → (is : Bool) → is ≡ is_some r → (IsTrue is → Overlaps xs start end) × (IsFalse is → OverlapsNone xs start end)
+first-tells start end xs rest new None same steps true told = absurd (cc)
+first-tells start end xs rest new None same steps false told = (λ yes. absurd (cc), λ no. none-meet start end xs (sym same ∙ steps.0))
+first-tells start end xs rest new (Some x) same steps true told = (λ yes. some-meet start end xs x new (sym same ∙ steps), λ no. absurd (cc))
+first-tells start end xs rest new (Some x) same steps false told = absurd (cc)
