@@ -8,7 +8,7 @@ use btree_node::{Node, NodesMut};
 use btree_set::BTreeSet;
 use btree_store::SlabStore;
 use std::cell::Cell;
-use std::ops::{Bound, RangeBounds};
+use std::ops::RangeBounds;
 use std::process::Abort;
 use test_support::Counted;
 
@@ -293,8 +293,7 @@ fn removes_range<'a, C: NodesMut<Counted<'a>, u32> + Drop>(
         number: end,
         compared,
     };
-    let bounds = (Bound::Included(&low), Bound::Excluded(&high));
-    let made = remove_counted(&mut map, bounds, compared);
+    let made = remove_counted(&mut map, low..high, compared);
     (map.len(), made)
 }
 
