@@ -88,13 +88,14 @@ fn seek_place<K: Ord, Q: Query<K>, C: NodesMut<K, u32>>(
 }
 
 // Seeks the places before and after a key: no more comparisons than for the key, and at most twice as many.
-fn seek_beside<'a, C: NodesMut<Counted<'a>, u32>>(
+fn seek_beside<K: Ord, C: NodesMut<K, u32>>(
     rt: &impl Abort,
-    map: &BTreeMap<Counted<'a>, u32, C>,
-    key: Counted<'a>,
+    map: &BTreeMap<K, u32, C>,
+    key: &K,
+    compared: &Cell<u32>,
 ) {
-    seek_place(rt, map, &Before(&key), key.compared, 18);
-    seek_place(rt, map, &After(&key), key.compared, 36);
+    seek_place(rt, &*map, &Before(key), compared, 18);
+    seek_place(rt, &*map, &After(key), compared, 36);
 }
 
 // The same over any store: the odd keys up to 87, on three levels.
@@ -118,7 +119,8 @@ fn asks_in<'a, C: NodesMut<Counted<'a>, u32> + Drop>(
         ask(rt, &mut map, Counted { number, compared }, 18);
         remove_once(rt, &mut map, Counted { number, compared }, false);
         remove_once(rt, &mut map, Counted { number, compared }, true);
-        seek_beside(rt, &map, Counted { number, compared });
+        let key = Counted { number, compared };
+        seek_beside(rt, &map, &key, compared);
     }
 }
 
