@@ -10,7 +10,8 @@ use Rattle.btree_range_map.specs.Steps.{Assigns, CanAbsorb, CanPut, CanPutOver, 
 use Rattle.btree_range_map.proofs.AssignLemmas.{joins-none}
 use Rattle.btree_range_map.proofs.PlaceLemmas.{before-none, before-some, previous-place, read-range}
 use Rattle.btree_range_map.proofs.PutLemmas.{assigns-wider}
-use Rattle.btree_range_map.proofs.RunLemmas.{between-from, next-from, run-at, value-here}
+use Rattle.btree_range_map.specs.CallerLaws.{between-from}
+use Rattle.btree_range_map.proofs.RunLemmas.{next-from, run-at, value-here}
 
 module _ {V : Type 0} (s : TreeState ℕ (Span V)) (at : Address) (start : ℕ) (span : Span V) (here : IsPlaceFor s start at) (runs : AreRuns (pairs_of s)) (some : start < span.end) where
   -- there is none

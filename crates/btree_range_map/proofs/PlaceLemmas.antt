@@ -17,7 +17,8 @@ use Rattle.btree_range_map.specs.declared.span.Span.{Span}
 use Rattle.btree_range_map.specs.Places.{EndsBy, IsRangeAround, StartsFrom}
 use Rattle.btree_range_map.specs.Steps.{IsPlaceFor}
 use Rattle.btree_range_map.specs.Ranges.{AreRuns, CutsOne, TellsSame, value_at}
-use Rattle.btree_range_map.proofs.RunLemmas.{between-from, run-at, value-here, value-none}
+use Rattle.btree_range_map.specs.CallerLaws.{between-from}
+use Rattle.btree_range_map.proofs.RunLemmas.{run-at, value-here, value-none}
 
 pub less-from : (x y : ℕ) → x < y → nat_cmp x y ≡ Less
 less-from x y lt = rw (lt-ltb x y lt) refl

@@ -30,7 +30,8 @@ use Rattle.btree_range_map.proofs.KeptLemmas.{kept-item, kept-here, kept-place, 
 use Rattle.btree_range_map.proofs.LimitLemmas.{put-limit}
 use Rattle.btree_range_map.proofs.ListLemmas.{get-set, get-set-other, set-back}
 use Rattle.btree_range_map.proofs.PlaceLemmas.{less-from}
-use Rattle.btree_range_map.proofs.RunLemmas.{between-from, run-at, value-here}
+use Rattle.btree_range_map.specs.CallerLaws.{between-from}
+use Rattle.btree_range_map.proofs.RunLemmas.{run-at, value-here}
 use Rattle.btree_range_map.proofs.StepLemmas.{IsSameOutside, clear-part, left-part, shorter-runs}
 use Rattle.btree_range_map.proofs.TrimLemmas.{trim-apart, trim-back, trim-back-fits, trim-item, trim-length, trim-pairs, trim-runs, trim-same}
 

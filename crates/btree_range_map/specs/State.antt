@@ -2,11 +2,14 @@
 -- refused, and the greatest number of ranges.
 use Rattle.std.specs.Prelude.{◌≡◌, ℕ, ◌+◌, ◌<◌, ◌≤◌, List, length, ◌⊎◌, refl}
 use Rattle.std.specs.Coded.{Coded, code_by, coded_ℕ, coded_list, coded×}
+use Rattle.std.specs.Ordering.{nat_cmp}
 use Rattle.btree_item.specs.declared.refused.Cause.{Cause}
 use Rattle.btree_item.specs.declared.refused.Cause.TheVariants.{Store, Count}
+use Rattle.btree_store.specs.Content.{Content}
+use Rattle.btree_node.specs.declared.node.Node.{Node}
+use Rattle.btree_laws.specs.TreeState.{IsBTree, Kept, TreeState, coded_kept, pairs_of, refused_once}
 use Rattle.btree_range_map.specs.declared.span.Span.{Span}
 use Rattle.btree_range_map.specs.Ranges.{CutsOne}
-use Rattle.btree_laws.specs.TreeState.{Kept, TreeState, coded_kept, pairs_of, refused_once}
 
 pub record RangeState (V : Type 0) : Type 0 where
   pub ranges : List (ℕ × Span V)
@@ -22,9 +25,17 @@ module _ {V : Type 0} where
       (λ p. record { ranges = p.0; kept = p.1 })
       (λ _. refl)
 
-  -- that of a map from the start of each range to its end
+  -- that of a map from the start of each range to its span
   abbrev pub ranges_of : TreeState ℕ (Span V) → RangeState V
   ranges_of map = record { ranges = pairs_of map; kept = map.kept }
+
+  -- the nodes are those of a map from the start of each range to its span
+  abbrev pub HoldsRanges : Content (Node ℕ (Span V)) → RangeState V → Type 0
+  HoldsRanges nodes s = (map : TreeState ℕ (Span V)) × IsBTree nat_cmp map × (ranges_of map ≡ s) × (nodes ≡ map.nodes)
+
+  -- a clone may fail, of a store with nodes that hold the ranges
+  abbrev pub FailsOver : (MayFail : Content (Node ℕ (Span V)) → Type 0) → RangeState V → Type 0
+  FailsOver MayFail s = (nodes : Content (Node ℕ (Span V))) × HoldsRanges nodes s × MayFail nodes
 
 module _ {V : Type 0} (old new : RangeState V) (more : ℕ) where
   -- with the cause `Store` one more refusal is counted, and there are fewer ranges than there may be; with the cause

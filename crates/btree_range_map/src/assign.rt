@@ -25,7 +25,7 @@ enum Next<V> {
 }
 
 // Returns what the range at an address, if there is one, does to numbers before it that end at `span.end`, with the value `span.value`.
-fn meets<V: Copy + Eq + Drop, C: NodesMut<u64, Span<V>>>(
+fn meets<V: Copy + Eq, C: NodesMut<u64, Span<V>>>(
     map: &BTreeMap<u64, Span<V>, C>,
     at: Option<Address>,
     span: &Span<V>,
@@ -55,7 +55,7 @@ fn meets<V: Copy + Eq + Drop, C: NodesMut<u64, Span<V>>>(
 
 // Makes the range at an address, which is inside the numbers from `start` up to `span.end`, the range of these numbers with their value. It
 // takes in the ranges after it that meet them, or touch them with their value. It needs no new node.
-fn absorb<V: Copy + Eq + Drop, C: NodesMut<u64, Span<V>>>(
+fn absorb<V: Copy + Eq, C: NodesMut<u64, Span<V>>>(
     map: &mut BTreeMap<u64, Span<V>, C>,
     at: Address,
     start: u64,
@@ -93,7 +93,7 @@ fn absorb<V: Copy + Eq + Drop, C: NodesMut<u64, Span<V>>>(
 
 // Puts the range from `start` with `span` at an address, where the range at its place overlaps it: that one then begins at `span.end`. If the
 // new one is refused, it begins again where it did.
-fn put_before<V: Copy + Eq + Drop, C: NodesMut<u64, Span<V>>>(
+fn put_before<V: Copy + Eq, C: NodesMut<u64, Span<V>>>(
     map: &mut BTreeMap<u64, Span<V>, C>,
     at: Address,
     next: Address,
@@ -119,7 +119,7 @@ fn put_before<V: Copy + Eq + Drop, C: NodesMut<u64, Span<V>>>(
 }
 
 // Puts the range from `start` with `span` at an address. It takes in the ranges from there on that meet it, or touch it with its value.
-fn put<V: Copy + Eq + Drop, C: NodesMut<u64, Span<V>>>(
+fn put<V: Copy + Eq, C: NodesMut<u64, Span<V>>>(
     map: &mut BTreeMap<u64, Span<V>, C>,
     at: Address,
     start: u64,
@@ -150,7 +150,7 @@ fn put<V: Copy + Eq + Drop, C: NodesMut<u64, Span<V>>>(
 
 // Does the same where the range before the address, with the span `last`, ends inside the new one: that one then ends at `start`. If the new
 // one is refused, it ends again where it did.
-fn put_over<V: Copy + Eq + Drop, C: NodesMut<u64, Span<V>>>(
+fn put_over<V: Copy + Eq, C: NodesMut<u64, Span<V>>>(
     map: &mut BTreeMap<u64, Span<V>, C>,
     at: Address,
     before: Address,
@@ -177,7 +177,7 @@ fn put_over<V: Copy + Eq + Drop, C: NodesMut<u64, Span<V>>>(
 }
 
 // Returns the address of the range that starts at a number, or else that of the gap where it would be.
-fn place_for<V: Copy + Eq + Drop, C: NodesMut<u64, Span<V>>>(
+fn place_for<V: Copy + Eq, C: NodesMut<u64, Span<V>>>(
     map: &BTreeMap<u64, Span<V>, C>,
     number: u64,
 ) -> Address
@@ -190,7 +190,7 @@ fn place_for<V: Copy + Eq + Drop, C: NodesMut<u64, Span<V>>>(
 }
 
 // Gives the numbers from `start` up to `span.end`, which are some, a value.
-pub(crate) fn assign<V: Copy + Eq + Drop, C: NodesMut<u64, Span<V>>>(
+pub(crate) fn assign<V: Copy + Eq, C: NodesMut<u64, Span<V>>>(
     map: &mut BTreeMap<u64, Span<V>, C>,
     start: u64,
     span: Span<V>,

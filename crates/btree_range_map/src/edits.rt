@@ -13,7 +13,7 @@ use btree_map::BTreeMap;
 use btree_node::NodesMut;
 
 // Returns the range that a number is in.
-pub(crate) fn range_around<V: Copy + Eq + Drop, C: NodesMut<u64, Span<V>>>(
+pub(crate) fn range_around<V: Copy + Eq, C: NodesMut<u64, Span<V>>>(
     map: &BTreeMap<u64, Span<V>, C>,
     number: u64,
 ) -> Option<(u64, Span<V>)>
@@ -39,7 +39,7 @@ pub(crate) fn range_around<V: Copy + Eq + Drop, C: NodesMut<u64, Span<V>>>(
 }
 
 // Removes the range at an address, and returns the address of the one after it, if there is one.
-pub(crate) fn take_range<V: Copy + Eq + Drop, C: NodesMut<u64, Span<V>>>(
+pub(crate) fn take_range<V: Copy + Eq, C: NodesMut<u64, Span<V>>>(
     map: &mut BTreeMap<u64, Span<V>, C>,
     at: Address,
 ) -> Option<Address>
@@ -54,7 +54,7 @@ pub(crate) fn take_range<V: Copy + Eq + Drop, C: NodesMut<u64, Span<V>>>(
 }
 
 // Takes the numbers from `start` up to `end` out of the ranges from an address on. It needs no new node.
-fn clear_from<V: Copy + Eq + Drop, C: NodesMut<u64, Span<V>>>(
+fn clear_from<V: Copy + Eq, C: NodesMut<u64, Span<V>>>(
     map: &mut BTreeMap<u64, Span<V>, C>,
     at: Option<Address>,
     start: u64,
@@ -81,7 +81,7 @@ fn clear_from<V: Copy + Eq + Drop, C: NodesMut<u64, Span<V>>>(
 
 // Takes the numbers from `start` up to `end` out of the range before a gap, which has numbers on both sides of them. Its right part is
 // added first, so that nothing has changed if that is refused.
-fn cut<V: Copy + Eq + Drop, C: NodesMut<u64, Span<V>>>(
+fn cut<V: Copy + Eq, C: NodesMut<u64, Span<V>>>(
     map: &mut BTreeMap<u64, Span<V>, C>,
     gap: Address,
     start: u64,
@@ -111,7 +111,7 @@ fn cut<V: Copy + Eq + Drop, C: NodesMut<u64, Span<V>>>(
 }
 
 // Takes the numbers from `start` up to `end` out, which are some.
-pub(crate) fn subtract<V: Copy + Eq + Drop, C: NodesMut<u64, Span<V>>>(
+pub(crate) fn subtract<V: Copy + Eq, C: NodesMut<u64, Span<V>>>(
     map: &mut BTreeMap<u64, Span<V>, C>,
     start: u64,
     end: u64,

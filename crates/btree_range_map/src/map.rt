@@ -1,18 +1,18 @@
 //! The map.
-ghost use Rattle.std.specs.Prelude.{◌≡◌, ◌↔◌, [], IfErr, IsTrue, OnErr, OnOk, length, slice_get};
+ghost use Rattle.std.specs.Prelude.{◌≡◌, ◌↔◌, [], IfErr, IsTrue, OnErr, OnOk, length};
 ghost use Rattle.std.specs.Borrow.{u64};
 ghost use Rattle.std.specs.FinMap as map;
 ghost use Rattle.std.specs.Mem.{FitsInMemory};
 ghost use Rattle.btree_node.specs.contracts.node.Node.{the_row as node_row};
 ghost use Rattle.btree_laws.specs.TreeState.{limited_to, unlimited};
-ghost use Rattle.btree_map.specs.Lists.{last_of};
 ghost use Rattle.btree_range_map.specs.contracts.span.Span.{the_row as span_row};
-ghost use Rattle.btree_range_map.specs.Ranges.{CutsOne, IsAssigned, IsCleared, JoinsNone, TellsSame, value_at};
-ghost use Rattle.btree_range_map.specs.State.{GrowsWithinLimit, IsInsertRefused, IsRefused};
+ghost use Rattle.btree_range_map.specs.Ranges.{CutsOne, IsAssigned, IsCleared, JoinsNone, TellsSame};
+ghost use Rattle.btree_range_map.specs.State.{GrowsWithinLimit, HoldsRanges, IsInsertRefused, IsRefused};
 
 use crate::Span;
 use crate::assign::assign;
-use crate::edits::{range_around, subtract};
+use crate::edits::subtract;
+use btree_ext::BTreeExt;
 use btree_item::Refused;
 use btree_map::BTreeMap;
 use btree_node::{ClearNodes, NodesMut};
@@ -21,12 +21,12 @@ use std::marker::Model;
 /// A map from numbers to values, kept as half-open ranges in ascending order, none empty. Where two of them touch, their values differ. It
 /// may have any number but `u64::MAX`, since a range ends before its end.
 #[derive(Drop)]
-pub struct RangeMap<V: Copy + Eq + Drop, C: NodesMut<u64, Span<V>>> {
+pub struct RangeMap<V: Copy + Eq, C: NodesMut<u64, Span<V>>> {
     // From the start of each range to its end and value.
     pub(crate) map: BTreeMap<u64, Span<V>, C>,
 }
 
-impl<V: Copy + Eq + Drop, C: NodesMut<u64, Span<V>>> Model for RangeMap<V, C> {
+impl<V: Copy + Eq, C: NodesMut<u64, Span<V>>> Model for RangeMap<V, C> {
     ghost use Rattle.std.specs.Coded.{codes};
     ghost use Rattle.btree_laws.specs.TreeState.{pairs_of};
     ghost use Rattle.btree_range_map.specs.Ranges.{AreRuns, TellsSame};
@@ -41,7 +41,7 @@ impl<V: Copy + Eq + Drop, C: NodesMut<u64, Span<V>>> Model for RangeMap<V, C> {
     ghost invariant = { λ a. AreRuns (pairs_of a.map) × TellsSame V.eq };
 }
 
-impl<V: Copy + Eq + Drop, C: NodesMut<u64, Span<V>>> RangeMap<V, C> {
+impl<V: Copy + Eq, C: NodesMut<u64, Span<V>>> RangeMap<V, C> {
     /// Returns a map without numbers, over an empty store made from `origin`. It allocates no memory.
     ///
     /// The contract requires that a node fits in memory, and that `==` tells whether two values are the same, as a derived one does.
@@ -100,42 +100,28 @@ impl<V: Copy + Eq + Drop, C: NodesMut<u64, Span<V>>> RangeMap<V, C> {
         self.map.is_empty()
     }
 
-    /// Returns the value of a number, if it has one. It makes at most six comparisons at each level.
-    pub fn get(&self, number: u64) -> Option<V>
-        ensures { result ≡ value_at self.now.ranges number }
+    /// Returns the store of the nodes, for reading.
+    pub fn store(&self) -> &C
+        ensures content { HoldsRanges (C.content result.now) self.now }
+        ensures refusals { C.refusals result.now ≡ self.now.kept.refusals }
     {
-        let (_, span) = range_around(&self.map, number)?;
-        Some(span.value)
-    }
-
-    /// Returns the first range, as its start and its span.
-    pub fn first_range(&self) -> Option<(u64, Span<V>)>
-        ensures { result ≡ slice_get self.now.ranges 0 }
-    {
-        let (start, span) = self.map.first_key_value()?;
-        Some((*start, *span))
-    }
-
-    /// Returns the last range, as its start and its span.
-    pub fn last_range(&self) -> Option<(u64, Span<V>)>
-        ensures { result ≡ last_of self.now.ranges }
-    {
-        let (start, span) = self.map.last_key_value()?;
-        Some((*start, *span))
+        self.map.tell_well_formed();
+        self.map.store()
     }
 
     /// Gives the numbers from `start` up to `end`, which is not one of them, a value, in place of those that they have. Ranges that touch with
     /// equal values become one. If `start` is at least `end`, nothing changes.
     ///
-    /// It adds at most two ranges, and none, so that it cannot fail, if a range is inside these numbers, or one with this value meets or
-    /// touches them. Otherwise it returns an error, with `start`, `end` and the value, if the store refuses a node that is needed, or if there
-    /// would be more ranges than there may be. Then every range stays.
+    /// If a range is inside these numbers, or one with this value meets or touches them, it needs no new node and cannot fail. Otherwise it adds
+    /// one range, or two if the numbers are inside one range: it returns an error, with `start`, `end` and the value, if the store refuses a
+    /// node that is needed, or if there would be more ranges than there may be.
     pub fn insert(&mut self, start: u64, end: u64, value: V) -> Result<(), Refused<u64, Span<V>>>
         ensures assigned { OnOk result (IsAssigned self.old.ranges start end value self.new.ranges) }
         ensures uncounted { OnOk result (self.new.kept ≡ self.old.kept) }
         ensures bounded { OnOk result (GrowsWithinLimit self.old self.new) }
 
-        ensures returned { IfErr result (λ r. (r.key ≡ start) × (r.value.end ≡ end) × (r.value.value ≡ value)) }
+        ensures returned { IfErr result (λ r.
+            (r.key ≡ start) × (r.value.end ≡ end) × (r.value.value ≡ value)) }
         ensures joins_none { OnErr result (JoinsNone self.old.ranges start end value) }
         ensures cause { IfErr result (λ r. IsInsertRefused self.old self.new start end r.cause) }
     {
@@ -145,7 +131,7 @@ impl<V: Copy + Eq + Drop, C: NodesMut<u64, Span<V>>> RangeMap<V, C> {
         assign(&mut self.map, start, Span { end, value })
     }
 
-    /// Takes the numbers from `start` up to `end` out, which is not one of them. If `start` is at least `end`, nothing changes.
+    /// Removes the numbers from `start` up to `end`, which is not removed. If `start` is at least `end`, nothing changes.
     ///
     /// It fails only if the numbers are inside one range, which then would become two: it returns an error, with `start` and `end`, if the
     /// store refuses a node that is needed, or if the number of ranges has reached its limit.
@@ -165,8 +151,8 @@ impl<V: Copy + Eq + Drop, C: NodesMut<u64, Span<V>>> RangeMap<V, C> {
     }
 }
 
-impl<V: Copy + Eq + Drop, C: ClearNodes<u64, Span<V>>> RangeMap<V, C> {
-    /// Takes all numbers out. The count of refusals stays.
+impl<V: Copy + Eq, C: ClearNodes<u64, Span<V>>> RangeMap<V, C> {
+    /// Removes all numbers. The count of refusals stays.
     pub fn clear(&mut self)
         ensures empty { self.new.ranges ≡ [] }
         ensures uncounted { self.new.kept ≡ self.old.kept }

@@ -9,7 +9,7 @@ use btree_map::BTreeMap;
 use btree_node::NodesMut;
 
 // The refusal of a call with these numbers and this value.
-pub(crate) fn refused_as<V: Copy + Eq + Drop>(
+pub(crate) fn refused_as<V: Copy + Eq>(
     refused: Refused<u64, Span<V>>,
     start: u64,
     span: Span<V>,
@@ -26,7 +26,7 @@ pub(crate) fn refused_as<V: Copy + Eq + Drop>(
 
 // Gives the numbers from `start` up to `span.end` a value inside the range before an address, which goes on past them on both sides with
 // the value `last.value`. Two ranges are added. If the second is refused, the first is removed again.
-pub(crate) fn split<V: Copy + Eq + Drop, C: NodesMut<u64, Span<V>>>(
+pub(crate) fn split<V: Copy + Eq, C: NodesMut<u64, Span<V>>>(
     map: &mut BTreeMap<u64, Span<V>, C>,
     at: Address,
     start: u64,
