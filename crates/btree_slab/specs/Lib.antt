@@ -63,6 +63,7 @@ pub use Rattle.btree_range_map.specs.Ranges as RangeMapRanges
 pub use Rattle.btree_range_map.specs.SameRanges as RangeMapSame
 pub use Rattle.btree_range_map.specs.Span as RangeMapSpan
 pub use Rattle.btree_range_map.specs.State as RangeMapState
+pub use Rattle.btree_range_map.specs.Updates as RangeMapUpdates
 pub use Rattle.btree_range_set.specs.Gaps
 pub use Rattle.btree_range_set.specs.Places
 pub use Rattle.btree_range_set.specs.Ranges
