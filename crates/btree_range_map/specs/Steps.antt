@@ -13,7 +13,7 @@ use Rattle.btree_range_map.specs.declared.assign.Next.TheVariants.{Absorbed, Ove
 use Rattle.btree_range_map.specs.declared.span.Span.{Span}
 use Rattle.btree_range_map.specs.Places.{DiffersBefore, EndsBy, IsApart, StartsFrom}
 use Rattle.btree_range_map.specs.Ranges.{AreRuns, IsAssigned, IsCleared}
-use Rattle.btree_range_map.specs.State.{GrowsWithinLimit, IsRefused, ranges_of}
+use Rattle.btree_range_map.specs.State.{GrowsWithinLimit, IsInsertRefused, IsRefused, ranges_of}
 
 module _ {V : Type 0} (old new : TreeState ℕ (Span V)) where
   -- the range at a place was removed, and this is the address of the one after it
@@ -40,9 +40,14 @@ module _ {V : Type 0} (old new : TreeState ℕ (Span V)) where
   abbrev pub IsRefusedIn : (more : ℕ) → Cause → Type 0
   IsRefusedIn more cause = IsRefused (ranges_of old) (ranges_of new) more cause
 
+  -- an insertion of the numbers from `start` up to `end` was refused
+  abbrev pub IsInsertRefusedIn : (start end : ℕ) → Cause → Type 0
+  IsInsertRefusedIn start end cause = IsInsertRefused (ranges_of old) (ranges_of new) start end cause
+
   -- the address of the range before this address stays
   abbrev pub KeepsBefore : Address → Type 0
-  KeepsBefore at = (place : ℕ) (before : Address) → HasPlace old at (suc place) → IsItemAddress old place before → IsItemAddress new place before
+  KeepsBefore at = (place : ℕ) (before : Address)
+      → HasPlace old at (suc place) → IsItemAddress old place before → IsItemAddress new place before
 
 module _ {V : Type 0} where
   -- the range at the address, if there is one, is the first that starts at `start` or later; those before it end there or

@@ -3,8 +3,7 @@ ghost use Rattle.std.specs.Prelude.{◌≡◌, ◌<◌, ℕ, IfErr, IfSome, OnEr
 ghost use Rattle.btree_laws.specs.TreeState.{IsOccupiedIn, IsValidIn, pairs_of};
 ghost use Rattle.btree_find.specs.Navigation.{HasPlace, IsItemAt};
 ghost use Rattle.btree_range_map.specs.Ranges.{AreRuns, JoinsNone, TellsSame};
-ghost use Rattle.btree_range_map.specs.State.{IsInsertRefused, ranges_of};
-ghost use Rattle.btree_range_map.specs.Steps.{Assigns, CanAbsorb, CanPut, CanPutOver, IsPlaceFor, IsRefusedIn, KeepsBefore, Meets, Overlaps};
+ghost use Rattle.btree_range_map.specs.Steps.{Assigns, CanAbsorb, CanPut, CanPutOver, IsInsertRefusedIn, IsPlaceFor, IsRefusedIn, KeepsBefore, Meets, Overlaps};
 
 use crate::Span;
 use crate::edits::take_range;
@@ -102,7 +101,8 @@ fn put_before<V: Copy + Eq, C: NodesMut<u64, Span<V>>>(
     rest: Span<V>,
 ) -> Result<(), Refused<u64, Span<V>>>
     requires can { CanPut map.old at start span }
-    requires next { (place : ℕ) → HasPlace map.old at place → Overlaps map.old place span next rest }
+    requires next { (place : ℕ) → HasPlace map.old at place →
+        Overlaps map.old place span next rest }
     ensures assigned { OnOk result (Assigns map.old map.new start span) }
     ensures returned { IfErr result (λ r. (r.key ≡ start) × (r.value ≡ span)) }
     ensures stays { OnErr result (KeepsBefore map.old map.new at) }
@@ -201,7 +201,7 @@ pub(crate) fn assign<V: Copy + Eq, C: NodesMut<u64, Span<V>>>(
     ensures assigned { OnOk result (Assigns map.old map.new start span) }
     ensures returned { IfErr result (λ r. (r.key ≡ start) × (r.value ≡ span)) }
     ensures joins_none { OnErr result (JoinsNone (pairs_of map.old) start span.end span.value) }
-    ensures cause { IfErr result (λ r. IsInsertRefused (ranges_of map.old) (ranges_of map.new) start span.end r.cause) }
+    ensures cause { IfErr result (λ r. IsInsertRefusedIn map.old map.new start span.end r.cause) }
 {
     let at = place_for(map, start);
     let Some(before) = map.previous_item_address(at) else {

@@ -116,7 +116,8 @@ impl<V: Copy + Eq, C: NodesMut<u64, Span<V>>> RangeMap<V, C> {
     /// one range, or two if the numbers are inside one range: it returns an error, with `start`, `end` and the value, if the store refuses a
     /// node that is needed, or if there would be more ranges than there may be.
     pub fn insert(&mut self, start: u64, end: u64, value: V) -> Result<(), Refused<u64, Span<V>>>
-        ensures assigned { OnOk result (IsAssigned self.old.ranges start end value self.new.ranges) }
+        ensures assigned { OnOk result
+            (IsAssigned self.old.ranges start end value self.new.ranges) }
         ensures uncounted { OnOk result (self.new.kept ≡ self.old.kept) }
         ensures bounded { OnOk result (GrowsWithinLimit self.old self.new) }
 
