@@ -1,14 +1,10 @@
 -- Updates, by one range more.
-use Rattle.std.proofs.Common.{◌≡◌, ◌≤◌, ◌<◌, ◌∙◌, ℕ, max, min, Bool, true, false, cond, List, [], ◌∷◌, length, Option, Some, None, refl, sym, ap, subst, arith, ◌⊎◌, inl, inr}
+use Rattle.std.proofs.Common.{◌≡◌, ◌≤◌, ◌<◌, ◌∙◌, ℕ, max, min, Bool, true, false, cond, List, [], ◌∷◌, Option, Some, None, refl, sym, ap, subst, arith, ◌⊎◌, inl, inr}
 use Rattle.std.proofs.lemmas.Bool.{cases_Bool, cases_lt, ltb-true}
-use Rattle.btree_item.specs.declared.refused.Cause.{Cause}
-use Rattle.btree_item.specs.declared.refused.Cause.TheVariants.{Store, Count}
-use Rattle.btree_laws.specs.TreeState.{refused_once}
 use Rattle.btree_range_map.specs.declared.span.Span.{Span}
 use Rattle.btree_range_map.specs.CallerLaws.{between-from, between-high, between-low, value-meeting}
-use Rattle.btree_range_map.specs.Ranges.{AreRuns, AscendFrom, CutsOne, IsAssigned, OverlapsNone, is_between, is_within, meets, ranges_meeting, value_at}
-use Rattle.btree_range_map.specs.State.{GrowsWithinLimit, IsInsertRefused, IsRefused, RangeState}
-use Rattle.btree_range_map.specs.Updates.{CountsLastRefusal, IsFirstPart, IsReturned, IsUpdated}
+use Rattle.btree_range_map.specs.Ranges.{AreRuns, AscendFrom, IsAssigned, OverlapsNone, is_between, is_within, meets, ranges_meeting, value_at}
+use Rattle.btree_range_map.specs.Updates.{IsFirstPart, IsReturned, IsUpdated}
 use Rattle.btree_range_map.proofs.GapLemmas.{ascend-filtered}
 use Rattle.btree_range_map.proofs.RunLemmas.{above-not-between, below-not-between, none-below}
 use Rattle.btree_range_map.proofs.StepLemmas.{outside-cases, passed}
@@ -136,34 +132,3 @@ module _ {V : Type 0} (returns : V → V → Type 0) where
       updated-below new same =
           subst (λ l. IsUpdated returns old start part.0 l) (sym same)
           (updated-end from part.0 mid low (omega (arith, first.low)) is first.none_before)
-
--- ---- how many ranges there are, and a refusal
-module _ {V : Type 0} where
-  pub grows-more : (old mid new : RangeState V) → mid.kept ≡ old.kept → GrowsWithinLimit old mid → GrowsWithinLimit mid new → GrowsWithinLimit old new
-  grows-more old mid new same first later more = elim (cases_lt (length mid.ranges) (length new.ranges)) [
-    | inl grows ↦ let few = later grows in let limit = ap (λ k. k.limit) same in omega (arith, few, limit)
-    | inr stays ↦ let few = first (omega (arith, stays, more)) in omega (arith, few, stays)
-  ]
-
-  pub grows-same : (old mid new : RangeState V) → GrowsWithinLimit old mid → new.ranges ≡ mid.ranges → GrowsWithinLimit old new
-  grows-same old mid new grows same = subst (λ (l : List (ℕ × Span V)). length old.ranges < length l → length l ≤ old.kept.limit) (sym same) grows
-
-  pub refused-ranges : (mid new : RangeState V) (start end : ℕ) (cause : Cause) → IsInsertRefused mid new start end cause → new.ranges ≡ mid.ranges
-  refused-ranges mid new start end cause (inl one) = one.ranges
-  refused-ranges mid new start end cause (inr two) = two.1.ranges
-
-  refused-last : (old mid new : RangeState V) (more : ℕ) (cause : Cause) → mid.kept ≡ old.kept → IsRefused mid new more cause → IsRefused (record new { kept = old.kept }) new more cause
-  refused-last old mid new more Store same is =
-      let count = ap length is.ranges in
-      let limit = ap (λ k. k.limit) same in
-      record { ranges = refl; counts = (is.counts.0 ∙ ap refused_once same, omega (arith, is.counts.1, count, limit)) }
-  refused-last old mid new more Count same is =
-      let count = ap length is.ranges in
-      let limit = ap (λ k. k.limit) same in
-      record { ranges = refl; counts = (is.counts.0 ∙ same, omega (arith, is.counts.1, count, limit)) }
-
-  pub counts-last : (old mid new : RangeState V) (start end : ℕ) (cause : Cause) → mid.kept ≡ old.kept → IsInsertRefused mid new start end cause
-      → CountsLastRefusal old new start end cause
-  counts-last old mid new start end cause same (inl one) = inl (refused-last old mid new 1 cause same one)
-  counts-last old mid new start end cause same (inr two) =
-      inr (subst (λ (l : List (ℕ × Span V)). CutsOne l start end) (sym two.1.ranges) two.0, refused-last old mid new 2 cause same two.1)

@@ -58,3 +58,8 @@ module _ {V : Type 0} (old new : RangeState V) where
   -- if there are more ranges than before, they are no more than there may be
   abbrev pub GrowsWithinLimit : Type 0
   GrowsWithinLimit = length old.ranges < length new.ranges → length new.ranges ≤ old.kept.limit
+
+module _ {V : Type 0} (old new : RangeState V) where
+  -- the last of several insertions, of these numbers, was refused, with the ranges that there are now; no other was
+  abbrev pub CountsLastRefusal : (start end : ℕ) → Cause → Type 0
+  CountsLastRefusal start end cause = IsInsertRefused (record new { kept = old.kept }) new start end cause

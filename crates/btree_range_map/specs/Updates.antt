@@ -1,10 +1,8 @@
 -- What an update leaves: values that an action returned, of some numbers or, if an insertion was refused, of those below its
 -- numbers.
 use Rattle.std.specs.Prelude.{◌≡◌, ℕ, ◌<◌, ◌≤◌, true, false, List, Option, Some, None}
-use Rattle.btree_item.specs.declared.refused.Cause.{Cause}
 use Rattle.btree_range_map.specs.declared.span.Span.{Span}
 use Rattle.btree_range_map.specs.Ranges.{OverlapsNone, is_between, is_within, value_at}
-use Rattle.btree_range_map.specs.State.{IsInsertRefused, RangeState}
 
 module _ {V : Type 0} where
   -- a number that had a value has one that was returned for it, and another number has none
@@ -24,7 +22,3 @@ module _ {V : Type 0} where
     pub high : part.1.end ≤ end
     pub none_before : OverlapsNone ranges start part.0
     pub has : (n : ℕ) → is_within part n ≡ true → value_at ranges n ≡ Some part.1.value
-
-  -- the last insertion, of these numbers, was refused, with the ranges that there are now; nothing was refused before it
-  abbrev pub CountsLastRefusal : (old new : RangeState V) → (start end : ℕ) → Cause → Type 0
-  CountsLastRefusal old new start end cause = IsInsertRefused (record new { kept = old.kept }) new start end cause

@@ -1,8 +1,8 @@
 //! Changes of the values that some numbers have.
 ghost use Rattle.std.specs.Prelude.{◌≡◌, ◌≤◌, ◌<◌, IfErr, IfNone, IfSome, OnOk};
 ghost use Rattle.btree_range_map.specs.Ranges.{JoinsNone, OverlapsNone};
-ghost use Rattle.btree_range_map.specs.State.{GrowsWithinLimit};
-ghost use Rattle.btree_range_map.specs.Updates.{CountsLastRefusal, IsFirstPart, IsUpdated};
+ghost use Rattle.btree_range_map.specs.State.{CountsLastRefusal, GrowsWithinLimit};
+ghost use Rattle.btree_range_map.specs.Updates.{IsFirstPart, IsUpdated};
 
 use crate::{RangeMap, Span};
 use btree_item::Refused;
