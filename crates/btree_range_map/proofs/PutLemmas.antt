@@ -21,7 +21,7 @@ use Rattle.btree_ext.specs.InsertAt.{InsertsAt, IsRefusedAt}
 use Rattle.btree_range_map.specs.declared.span.Span.{Span}
 use Rattle.btree_range_map.specs.Places.{IsApart}
 use Rattle.btree_range_map.specs.Ranges.{AreRuns, IsAssigned, JoinsNone, value_at}
-use Rattle.btree_range_map.specs.State.{IsRefused, ranges_of}
+use Rattle.btree_range_map.specs.State.{ranges_of}
 use Rattle.btree_range_map.specs.State as state
 use Rattle.btree_range_map.specs.Steps.{Absorbs, Assigns, CanAbsorb, CanPut, CanPutOver, IsRefusedIn, KeepsBefore, Overlaps}
 use Rattle.btree_range_map.proofs.AbsorbLemmas.{span_to}

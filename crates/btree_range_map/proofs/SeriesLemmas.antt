@@ -6,7 +6,7 @@ use Rattle.btree_item.specs.declared.refused.Cause.TheVariants.{Count, Store}
 use Rattle.btree_laws.specs.TreeState.{refused_once}
 use Rattle.btree_range_map.specs.declared.span.Span.{Span}
 use Rattle.btree_range_map.specs.Ranges.{CutsOne, IsAssigned, is_within, value_at}
-use Rattle.btree_range_map.specs.Series.{AreAssigned, GoesThrough, assigned_all}
+use Rattle.btree_range_map.specs.Series.{GoesThrough, assigned_all}
 use Rattle.btree_range_map.specs.State.{CountsLastRefusal, GrowsWithinLimit, IsInsertRefused, IsRefused, RangeState}
 
 -- ---- the values

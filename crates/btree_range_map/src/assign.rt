@@ -1,6 +1,6 @@
 //! Numbers that are given a value, on the tree of a map of ranges, by addresses.
 ghost use Rattle.std.specs.Prelude.{◌≡◌, ◌<◌, ℕ, IfErr, IfSome, OnErr, OnOk};
-ghost use Rattle.btree_laws.specs.TreeState.{IsOccupiedIn, IsValidIn, pairs_of};
+ghost use Rattle.btree_laws.specs.TreeState.{IsOccupiedIn, pairs_of};
 ghost use Rattle.btree_find.specs.Navigation.{HasPlace, IsItemAt};
 ghost use Rattle.btree_range_map.specs.Ranges.{AreRuns, JoinsNone, TellsSame};
 ghost use Rattle.btree_range_map.specs.Steps.{Assigns, CanAbsorb, CanPut, CanPutOver, IsInsertRefusedIn, IsPlaceFor, IsRefusedIn, KeepsBefore, Meets, Overlaps};

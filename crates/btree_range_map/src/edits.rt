@@ -1,5 +1,5 @@
 //! The steps of a map of ranges on its tree, by addresses.
-ghost use Rattle.std.specs.Prelude.{◌≡◌, ◌<◌, ◌≤◌, ℕ, IfErr, IfNone, IfSome, OnErr, OnOk, None};
+ghost use Rattle.std.specs.Prelude.{◌≡◌, ◌<◌, ℕ, IfErr, IfNone, IfSome, OnErr, OnOk, None};
 ghost use Rattle.btree_laws.specs.TreeState.{IsOccupiedIn, IsValidIn, pairs_of};
 ghost use Rattle.btree_find.specs.Navigation.{HasPlace};
 ghost use Rattle.btree_range_map.specs.Places.{IsRangeAround};

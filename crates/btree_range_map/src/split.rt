@@ -1,5 +1,5 @@
 //! A value that is given to numbers inside a range of another value, on the tree of a map of ranges, by addresses.
-ghost use Rattle.std.specs.Prelude.{◌≡◌, ℕ, IfErr, OnOk};
+ghost use Rattle.std.specs.Prelude.{◌≡◌, IfErr, OnOk};
 ghost use Rattle.btree_range_map.specs.Steps.{Assigns, CanSplit, IsRefusedIn};
 
 use crate::Span;
