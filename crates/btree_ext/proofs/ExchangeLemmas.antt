@@ -21,7 +21,7 @@ use Rattle.btree_raw.proofs.StateLemmas.{same-root}
 use Rattle.btree_find.proofs.FitsLemmas.{item-occupied}
 use Rattle.btree_find.proofs.PlaceLemmas as places
 use Rattle.btree_ext.specs.ValueWritten.{item_written, node_written}
-use Rattle.btree_ext.specs.WrittenLaws.{set-here}
+use Rattle.btree_ext.proofs.WrittenLaws.{set-here}
 
 -- another item is at the address, in a node that is otherwise unchanged; no other node has changed
 pub record ExchangesAt {A : Type 0} (node_at new : NodeMap A) (a : Address) (was is : A) : Type 0 where

@@ -18,7 +18,7 @@ use Rattle.btree_find.proofs.WalkLemmas.{occupied-below}
 use Rattle.btree_ext.specs.Remove.{RebalancesLeaf}
 use Rattle.btree_ext.proofs.InnerLemmas.{node-of}
 use Rattle.btree_ext.proofs.RemoveLemmas.{removed-from-leaf, taken-counted, taken-off, taken-room, taken-valid}
-use Rattle.btree_ext.specs.WrittenLaws.{no-node}
+use Rattle.btree_ext.proofs.WrittenLaws.{no-node}
 
 some-same : (m n : ℕ) → Some m ≡ Some n → m ≡ n
 some-same m n e = cc

@@ -11,7 +11,7 @@ use Rattle.btree_ext.proofs.InnerLemmas.{apart, node-of, other-items, well}
 use Rattle.btree_ext.proofs.RemoveInnerLemmas.{kept-is, removed-is}
 use Rattle.btree_ext.proofs.RemoveLemmas.{remove-shorter}
 use Rattle.btree_ext.proofs.UpdateLeafLemmas.{same-node}
-use Rattle.btree_ext.specs.WrittenLaws.{set-here}
+use Rattle.btree_ext.proofs.WrittenLaws.{set-here}
 
 -- an item set twice at an index, and what is there
 set-set : {X : Type 0} (xs : List X) (n : ℕ) (x y : X) → set (set xs n x) n y ≡ set xs n y

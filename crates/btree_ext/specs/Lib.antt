@@ -10,7 +10,6 @@ pub mod Remove
 pub mod Replace
 pub mod Update
 pub mod ValueWritten
-pub mod WrittenLaws
 pub mod Outcomes
 pub mod Changes
 pub mod TreeLent

@@ -24,6 +24,9 @@ use btree_raw::RawBTree;
 use btree_steps::Steps;
 
 /// A well formed tree, read by its nodes and by addresses in it. Only `as_raw` is required; the other calls have default bodies.
+///
+/// No call copies a key or a value, or allocates memory. A search by a key or another query makes at most six comparisons at each level that
+/// it visits. A call that returns an address reads at most one node of each level.
 pub trait BTreeExt<K: Ord, V> {
     /// The store of the nodes.
     type Nodes: NodesMut<K, V>;
@@ -118,15 +121,14 @@ pub trait BTreeExt<K: Ord, V> {
     }
 
     /// Returns `Ok` with the address of a key that is there, or `Err` with the back address in a leaf whose place is the number of
-    /// smaller keys. It makes at most six comparisons at each level.
+    /// smaller keys.
     fn address_of(&self, key: &K) -> Result<Address, Address>
         ensures { IsAddressOf K.cmp key.now (state self.now) result }
     {
         address_of(self.as_raw(), key)
     }
 
-    /// Does the same as `address_of`, and ticks once for each comparison of keys: at most six times for each level. `Steps` takes no time
-    /// and no bytes.
+    /// Does the same as `address_of`, and ticks once for each comparison of keys. `Steps` takes no time and no bytes.
     fn address_of_counted(&self, key: &K, steps: &mut Steps) -> Result<Address, Address>
         ensures found { IsAddressOf K.cmp key.now (state self.now) result }
         ensures counted { TicksExactly K.cmp key.now (state self.now) steps.old.count steps.new.count }
@@ -136,7 +138,7 @@ pub trait BTreeExt<K: Ord, V> {
     }
 
     /// Returns `Ok` with the address of the item whose key a query is equal to, or `Err` with the back address in a leaf whose place is the
-    /// number of keys below it. It makes at most six tests of the query at each level.
+    /// number of keys below it.
     fn address_by<Q: Query<K>>(&self, query: &Q) -> Result<Address, Address>
         ensures { IsAddressBy Q.compare query.now (state self.now) result }
     {
@@ -144,8 +146,7 @@ pub trait BTreeExt<K: Ord, V> {
     }
 
     /// Returns `Ok` with the address of a key under a node, or `Err` with the back address in a leaf under the node that has as many
-    /// smaller keys under the node before it. The node must be in use; see `has_node`. It makes at most six comparisons at each level from
-    /// the node down.
+    /// smaller keys under the node before it. The node must be in use; see `has_node`.
     fn address_in(&self, id: usize, key: &K) -> Result<Address, Address>
         requires { IsUsed (state self.now) id }
         ensures { IsAddressIn K.cmp key.now (state self.now) id result }
@@ -153,8 +154,7 @@ pub trait BTreeExt<K: Ord, V> {
         address_in(self.as_raw(), id, key)
     }
 
-    /// Returns the value at a key under a node, or `None` if the key is not there. The node must be in use; see `has_node`. It makes at most
-    /// six comparisons at each level from the node down, copies nothing and allocates no memory.
+    /// Returns the value at a key under a node, or `None` if the key is not there. The node must be in use; see `has_node`.
     fn get_in<'a>(&'a self, key: &K, id: usize) -> Option<&'a V>
     where
         K: 'a,
@@ -182,7 +182,7 @@ pub trait BTreeExt<K: Ord, V> {
     }
 
     /// Returns the address of the item at the place of a valid address, which is the address itself if there is an item. Returns
-    /// `None` if the place is the number of pairs. It reads at most one node of each level.
+    /// `None` if the place is the number of pairs.
     fn normalize(&self, addr: Address) -> Option<Address>
         requires { IsValidIn (state self.now) addr }
         ensures { IsNormalized (state self.now) addr result }
@@ -191,7 +191,7 @@ pub trait BTreeExt<K: Ord, V> {
     }
 
     /// Returns the address of the item after the one at a valid address. If there is no item, returns the address of the item at its
-    /// place. Returns `None` if there is no such item. It reads at most one node of each level.
+    /// place. Returns `None` if there is no such item.
     fn next_item_address(&self, addr: Address) -> Option<Address>
         requires { IsValidIn (state self.now) addr }
         ensures { IsNext (state self.now) addr result }
@@ -199,7 +199,7 @@ pub trait BTreeExt<K: Ord, V> {
         next_item_address(self.as_raw(), addr)
     }
 
-    /// Returns the address of the item before the place of a valid address, or `None` at place 0. It reads at most one node of each level.
+    /// Returns the address of the item before the place of a valid address, or `None` at place 0.
     fn previous_item_address(&self, addr: Address) -> Option<Address>
         requires { IsValidIn (state self.now) addr }
         ensures { IsPrevious (state self.now) addr result }
@@ -208,7 +208,7 @@ pub trait BTreeExt<K: Ord, V> {
     }
 
     /// Returns an address in a leaf at the place of a valid address: past the end of a leaf, or -1 of a leaf if the address is at -1. An
-    /// address in a leaf, or nowhere, is returned as it is. It reads at most one node of each level.
+    /// address in a leaf, or nowhere, is returned as it is.
     fn leaf_address(&self, addr: Address) -> Address
         requires { IsValidIn (state self.now) addr }
         ensures { IsLeafAddressFor (state self.now) addr result }
@@ -217,7 +217,7 @@ pub trait BTreeExt<K: Ord, V> {
     }
 
     /// Returns the address of the next item, as `next_item_address` does, if there is one. Otherwise returns the offset after the address
-    /// if there is an item, and else the address itself. Returns `None` if there are no pairs. It reads at most one node of each level.
+    /// if there is an item, and else the address itself. Returns `None` if there are no pairs.
     fn next_item_or_back_address(&self, addr: Address) -> Option<Address>
         requires { IsValidIn (state self.now) addr }
         ensures { IsNextOrBack (state self.now) addr result }
@@ -225,29 +225,28 @@ pub trait BTreeExt<K: Ord, V> {
         next_item_or_back_address(self.as_raw(), addr)
     }
 
-    /// Returns the address of the first item, or `None` if there are no pairs. It reads one node of each level.
+    /// Returns the address of the first item, or `None` if there are no pairs.
     fn first_item_address(&self) -> Option<Address>
         ensures { IsFirstItem (state self.now) result }
     {
         first_item_address(self.as_raw())
     }
 
-    /// Returns the address of the last item, or `None` if there are no pairs. It reads one node of each level.
+    /// Returns the address of the last item, or `None` if there are no pairs.
     fn last_item_address(&self) -> Option<Address>
         ensures { IsLastItem (state self.now) result }
     {
         last_item_address(self.as_raw())
     }
 
-    /// Returns offset 0 of the leftmost leaf, where a visit of the back addresses begins, or nowhere if there are no pairs. It reads one
-    /// node of each level.
+    /// Returns offset 0 of the leftmost leaf, where a visit of the back addresses begins, or nowhere if there are no pairs.
     fn first_back_address(&self) -> Address
         ensures { IsFirstBack (state self.now) result }
     {
         first_back_address(self.as_raw())
     }
 
-    /// Returns the address past the end of the rightmost leaf, or nowhere if there are no pairs. It reads one node of each level.
+    /// Returns the address past the end of the rightmost leaf, or nowhere if there are no pairs.
     fn last_valid_address(&self) -> Address
         ensures { IsLastValid (state self.now) result }
     {
@@ -255,7 +254,7 @@ pub trait BTreeExt<K: Ord, V> {
     }
 
     /// Returns the back address after a valid back address, or `None` after the last one. After -1 of a node comes the first back address
-    /// under the node. From `first_back_address` it visits each back address once. It reads at most one node of each level.
+    /// under the node. From `first_back_address` it visits each back address once.
     fn next_back_address(&self, addr: Address) -> Option<Address>
         requires { IsValidIn (state self.now) addr }
         ensures { IsNextBack (state self.now) addr result }
@@ -264,8 +263,7 @@ pub trait BTreeExt<K: Ord, V> {
     }
 
     /// Returns the front address before a valid front address, or `None` before the first one. Before the address past the end of a node
-    /// comes the last front address under the node. From `last_item_address` it visits each front address once. It reads at most one node
-    /// of each level.
+    /// comes the last front address under the node. From `last_item_address` it visits each front address once.
     fn previous_front_address(&self, addr: Address) -> Option<Address>
         requires { IsValidIn (state self.now) addr }
         ensures { IsPreviousFront (state self.now) addr result }
@@ -291,8 +289,7 @@ pub trait BTreeExt<K: Ord, V> {
         replaces_at(self.as_raw(), addr, key)
     }
 
-    /// Checks that the nodes are exactly one well formed tree, and returns `Ok`, since they are. It reads each node once, copies nothing and
-    /// uses no memory but the stack.
+    /// Checks that the nodes are exactly one well formed tree, and returns `Ok`, since they are. It reads each node once.
     fn validate(&self) -> Result<(), Fault>
         ensures { result ≡ Ok tt }
     {
@@ -301,8 +298,7 @@ pub trait BTreeExt<K: Ord, V> {
 
     /// Checks a node and all below it against a parent and the nearest separators on both sides. Returns `Ok` with how many levels are below
     /// the node, 0 for a leaf, exactly if they suit it, and else a fault of the arguments: the first one in preorder. The node must be in use;
-    /// see `has_node`. One with neither separator is judged as the root. It reads each node under this one at most once, copies nothing and
-    /// uses no memory but the stack.
+    /// see `has_node`. One with neither separator is judged as the root. It reads each node under this one at most once.
     fn validate_node(
         &self,
         id: usize,

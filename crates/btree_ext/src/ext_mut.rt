@@ -14,12 +14,14 @@ use crate::ext::BTreeExt;
 use btree_item::{Address, Item, Refused, UpdateRefused};
 
 /// A well formed tree, changed by addresses in it. Each change leaves a well formed tree.
+///
+/// Only an insertion needs new nodes and can fail: `insert_at`, `insert_exactly_at`, and `update_in` with an absent key.
 pub trait BTreeExtMut<K: Ord + Drop, V: Drop>: BTreeExt<K, V> {
     /// What the tree is after a value was written at an address, as contracts see it.
     ghost with_value: { Self → Address → V → Self };
 
     /// Returns the key of the item at an address, and its value for writing, or `None` if there is no item: at -1, past the last item of a
-    /// node, or nowhere. It changes no address, needs no new node and cannot fail.
+    /// node, or nowhere. It changes no address.
     ///
     /// The address must be valid: `is_valid` decides that. The contract says what is returned, and nothing of the tree afterwards, also where
     /// that is `None`; that of `pair_mut` says both.
@@ -36,7 +38,7 @@ pub trait BTreeExtMut<K: Ord + Drop, V: Drop>: BTreeExt<K, V> {
     }
 
     /// Returns the key of the item at an address, and its value for writing. What is written replaces the value, and nothing else changes:
-    /// the key stays, and so does every address. It needs no new node and cannot fail.
+    /// the key stays, and so does every address.
     ///
     /// An item must be at the address; `item` decides that.
     fn pair_mut(&mut self, addr: Address) -> (&K, &mut V)
@@ -50,8 +52,7 @@ pub trait BTreeExtMut<K: Ord + Drop, V: Drop>: BTreeExt<K, V> {
     /// Returns the value at a key under a node for writing, or `None` if the key is not there. What is written replaces the value, and
     /// nothing else changes: the stored key stays, and so does every address.
     ///
-    /// The node must be in use; see `has_node`. It makes at most six comparisons at each level from the node down, needs no new node and
-    /// cannot fail.
+    /// The node must be in use; see `has_node`.
     fn get_mut_in(&mut self, key: &K, id: usize) -> Option<&mut V>
         requires { IsUsed (Self.state self.old) id }
         ensures* writes_back { sem 𝓛 (LendsIf Self.row V.row self.entry result
@@ -91,7 +92,7 @@ pub trait BTreeExtMut<K: Ord + Drop, V: Drop>: BTreeExt<K, V> {
         ensures returned { IfErr result (λ r. (r.key, r.value) ≡ item) }
         ensures refused { IfErr result (RefusesAt Self.state self.old self.new addr Self.Nodes.MayRefuse) };
 
-    /// Replaces key and value of the item at an address, and returns the old pair. It changes one node, needs no new one and cannot fail.
+    /// Replaces key and value of the item at an address, and returns the old pair. It changes one node.
     ///
     /// An item must be at the address, and the new key must lie between its neighbours: `replaces_at` decides that.
     fn replace_at(&mut self, addr: Address, key: K, value: V) -> (K, V)
@@ -99,7 +100,7 @@ pub trait BTreeExtMut<K: Ord + Drop, V: Drop>: BTreeExt<K, V> {
         ensures old { item_of (Self.state self.old) addr ≡ Some result }
         ensures exchanged { IsExchanged Self.state self.old self.new addr K.cmp (key, value) };
 
-    /// Replaces the value of the item at an address, and returns the old value. It changes one node, needs no new one and cannot fail.
+    /// Replaces the value of the item at an address, and returns the old value. It changes one node.
     ///
     /// An item must be at the address; `item` decides that.
     fn replace_value_at(&mut self, addr: Address, value: V) -> V
@@ -109,8 +110,8 @@ pub trait BTreeExtMut<K: Ord + Drop, V: Drop>: BTreeExt<K, V> {
     /// Removes the item at an address. Returns it, with a back address at the place where it was; its key fits there, so `insert_at` can
     /// put it back. Returns `None`, and nothing changes, if there is no item: at -1, past the last item of a node, or nowhere.
     ///
-    /// The address must be valid: `is_valid` decides that. It frees at most as many nodes as the tree has levels, needs no new one and cannot fail. An
-    /// item of an internal node is replaced with the last one under the child before it.
+    /// The address must be valid: `is_valid` decides that. It frees at most as many nodes as the tree has levels. An item of an internal
+    /// node is replaced with the last one under the child before it.
     fn remove_at(&mut self, addr: Address) -> Option<(Item<K, V>, Address)>
         requires { IsValidIn (Self.state self.old) addr }
         ensures removed { IfSome result (λ r. IsRemoved Self.state self.old self.new K.cmp addr r.0 r.1) }
@@ -118,7 +119,7 @@ pub trait BTreeExtMut<K: Ord + Drop, V: Drop>: BTreeExt<K, V> {
         ensures unchanged { IfNone result (Self.state self.new ≡ Self.state self.old) };
 
     /// Calls `action` with the value at an address. The value that it gives takes the place of the old one, and the key stays; if it gives
-    /// none, the pair is removed, as `remove_at` does. Returns the action's answer. It needs no new node and cannot fail.
+    /// none, the pair is removed, as `remove_at` does. Returns the action's answer.
     ///
     /// An item must be at the address; `item` decides that.
     fn update_at<T, F: FnOnce(V) -> (Option<V>, T)>(&mut self, addr: Address, action: F) -> T

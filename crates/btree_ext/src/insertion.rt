@@ -19,7 +19,6 @@ use btree_raw::{
     refused,
 };
 
-// Inserts the first pair into an empty tree.
 fn insert_first<K: Ord + Drop, V: Drop, C: NodesMut<K, V>>(
     tree: &mut RawBTree<K, V, C>,
     addr: Address,
@@ -44,7 +43,7 @@ fn insert_first<K: Ord + Drop, V: Drop, C: NodesMut<K, V>>(
     }
 }
 
-// Inserts a pair, whose key fits, with the nodes that were claimed for it.
+/// Inserts a pair, whose key fits, with the nodes that were claimed for it.
 pub(crate) fn insert_claimed<K: Ord + Drop, V: Drop, C: NodesMut<K, V>>(
     tree: &mut RawBTree<K, V, C>,
     addr: Address,
@@ -63,8 +62,8 @@ pub(crate) fn insert_claimed<K: Ord + Drop, V: Drop, C: NodesMut<K, V>>(
     at
 }
 
-// Inserts a pair, whose key fits, into a full leaf, which is split. Not inlined, so that the usual insertion keeps its values in
-// registers.
+/// Inserts a pair, whose key fits, into a full leaf, which is split. Not inlined, so that the usual insertion keeps its values in
+/// registers.
 #[inline(never)]
 pub(crate) fn insert_and_split<K: Ord + Drop, V: Drop, C: NodesMut<K, V>>(
     tree: &mut RawBTree<K, V, C>,
@@ -90,7 +89,6 @@ pub(crate) fn insert_and_split<K: Ord + Drop, V: Drop, C: NodesMut<K, V>>(
     Ok(insert_claimed(tree, addr, item, &mut claims))
 }
 
-// Inserts a pair, whose key fits, into a leaf of a tree that is not empty.
 fn insert_more<K: Ord + Drop, V: Drop, C: NodesMut<K, V>>(
     tree: &mut RawBTree<K, V, C>,
     addr: Address,

@@ -53,7 +53,7 @@ pub fn remove_at<K: Ord + Drop, V: Drop, C: NodesMut<K, V>>(
 }
 
 /// Removes the pair whose key is equal to the given one, and returns it. Returns `None`, and nothing changes, if there is none. It searches
-/// once: it makes at most six comparisons at each level. It frees at most as many nodes as the tree has levels and needs no new one.
+/// once. It frees at most as many nodes as the tree has levels and needs no new one.
 pub fn remove_entry<K: Ord + Drop, V: Drop, C: NodesMut<K, V>>(
     tree: &mut RawBTree<K, V, C>,
     key: &K,

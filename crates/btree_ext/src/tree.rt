@@ -23,6 +23,9 @@ use std::marker::Model;
 use std::mem;
 
 /// A well formed tree of nodes in a store. Its pairs are always a list in the order of the keys.
+///
+/// A search by a key or another query makes at most six comparisons at each level. Only a call that may add a pair, and `clone`, allocates
+/// memory.
 #[derive(Drop)]
 pub struct Tree<K: Ord, V, C: NodesMut<K, V>> {
     raw: RawBTree<K, V, C>,
@@ -51,7 +54,7 @@ impl<K: Ord, V, C: NodesMut<K, V>> Tree<K, V, C> {
     ghost use Rattle.btree_ext.specs.Outcomes.{ExchangesLent, ExchangesLentBy};
     ghost use Rattle.btree_ext.specs.TreeLent.{lends_at_key, lends_by};
 
-    /// Returns a tree without pairs, over an empty store made from `origin`. It allocates no memory.
+    /// Returns a tree without pairs, over an empty store made from `origin`.
     ///
     /// The contract requires that a node fits in memory. The prover finds that by itself if the types of key and value are known.
     pub fn new(origin: C::Origin) -> Self
@@ -64,7 +67,7 @@ impl<K: Ord, V, C: NodesMut<K, V>> Tree<K, V, C> {
         }
     }
 
-    /// Returns a tree without pairs that has at most `limit`, over an empty store made from `origin`. It allocates no memory.
+    /// Returns a tree without pairs that has at most `limit`, over an empty store made from `origin`.
     ///
     /// The contract requires that a node fits in memory, as that of `new`.
     pub fn with_limit(origin: C::Origin, limit: usize) -> Self
@@ -77,8 +80,7 @@ impl<K: Ord, V, C: NodesMut<K, V>> Tree<K, V, C> {
         Tree { raw }
     }
 
-    /// Returns a tree without pairs, over an empty store; the store's `len` tells whether it is empty. It keeps its count of refusals,
-    /// and allocates no memory.
+    /// Returns a tree without pairs, over an empty store; the store's `len` tells whether it is empty. It keeps its count of refusals.
     ///
     /// The contract requires that a node fits in memory, as that of `new`.
     pub fn in_store(nodes: C) -> Self
@@ -127,8 +129,7 @@ impl<K: Ord, V, C: NodesMut<K, V>> Tree<K, V, C> {
         other.raw.set_limit(other_limit);
     }
 
-    /// Returns the value at a key equal to the given one, or `None`. It makes at most six comparisons at each level, copies nothing and
-    /// allocates no memory.
+    /// Returns the value at a key equal to the given one, or `None`. It copies nothing.
     pub fn get(&self, key: &K) -> Option<&V>
         ensures { option_copied result ≡ found_value K.cmp key.now (pairs_of self.now) }
     {
@@ -143,7 +144,7 @@ impl<K: Ord, V, C: NodesMut<K, V>> Tree<K, V, C> {
     }
 
     /// Returns the value at a key equal to the given one for writing, or `None`. What is written replaces the value, and nothing else
-    /// changes: the stored key stays, and so does every address. It makes at most six comparisons at each level.
+    /// changes: the stored key stays, and so does every address.
     pub fn get_mut(&mut self, key: &K) -> Option<&mut V>
         ensures* writes_back { sem 𝓛 (lends_at_key
             K.row V.row C.row C.Origin.row K.Ord C.NodesMut self.entry key.now result) }
@@ -174,7 +175,7 @@ impl<K: Ord, V, C: NodesMut<K, V>> Tree<K, V, C> {
     }
 
     /// Returns a raw tree as a tree, if it is well formed and within its limit, and else as it was, with the fault that `validate` returns.
-    /// It reads each node of a well formed tree once, copies nothing and uses no memory but the stack.
+    /// It reads each node of a well formed tree once, and copies nothing.
     pub fn from_raw(raw: RawBTree<K, V, C>) -> Result<Self, (RawBTree<K, V, C>, Fault)>
         ensures exact { IsOk result ↔ IsBTreeWithinLimit raw K.cmp }
         ensures kept { IfOk result (λ tree. tree ≡ raw) }
@@ -239,7 +240,7 @@ impl<K: Ord + Drop, V: Drop, C: NodesMut<K, V>> Tree<K, V, C> {
 
     /// Removes the pair whose key is equal to the given one, and returns it. Returns `None`, and nothing changes, if there is none.
     ///
-    /// It searches once: it makes at most six comparisons at each level. It frees at most as many nodes as the tree has levels and cannot fail.
+    /// It searches once. It frees at most as many nodes as the tree has levels and cannot fail.
     pub fn remove_entry(&mut self, key: &K) -> Option<(K, V)>
         ensures entry { result ≡ found K.cmp key.now (pairs_of self.old) }
         ensures removed { pairs_of self.new ≡ removed K.cmp key.now (pairs_of self.old) }

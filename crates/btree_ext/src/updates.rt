@@ -18,7 +18,6 @@ use btree_item::{Address, Cause, Item, UpdateRefused};
 use btree_node::{Node, NodesMut};
 use btree_raw::{ClaimedIds, RawBTree, claim, claim_one, need, put, release};
 
-// Updates an absent key in an empty tree.
 fn update_first<K, V, T, C, F>(
     tree: &mut RawBTree<K, V, C>,
     gap: Address,
@@ -55,7 +54,6 @@ where
     Ok(answer)
 }
 
-// Updates an absent key, which fits at the gap, in a tree that is not empty.
 fn update_more<K, V, T, C, F>(
     tree: &mut RawBTree<K, V, C>,
     gap: Address,
@@ -94,7 +92,6 @@ where
     Ok(answer)
 }
 
-// Updates an absent key, which fits at the gap.
 fn update_absent<K, V, T, C, F>(
     tree: &mut RawBTree<K, V, C>,
     gap: Address,
@@ -125,7 +122,6 @@ where
     }
 }
 
-// Updates at the address of the key, or at its gap.
 fn update_at_or_gap<K, V, T, C, F>(
     tree: &mut RawBTree<K, V, C>,
     at: Result<Address, Address>,

@@ -30,7 +30,6 @@ pub fn exchange<K: Ord, V, C: NodesMut<K, V>>(
     mem::replace(old, value)
 }
 
-// Returns the key of an item, and its value for writing.
 fn key_and_value<'a, K, V>(item: &'a mut Item<K, V>) -> (&'a K, &'a mut V)
     ensures* writes_back { sem 𝓛
         (Lends (item_row K.row V.row) V.row item.entry result.1 (λ w. (item.old.0, w))) }
@@ -61,7 +60,6 @@ pub fn pair_mut<'a, K: Ord + 'a, V: 'a, C: NodesMut<K, V>>(
     }
 }
 
-// Returns the value of the item at an address for writing.
 fn value_mut<'a, K: Ord + 'a, V: 'a, C: NodesMut<K, V>>(
     tree: &'a mut RawBTree<K, V, C>,
     addr: Address,
@@ -78,8 +76,8 @@ fn value_mut<'a, K: Ord + 'a, V: 'a, C: NodesMut<K, V>>(
 
 /// Returns the value at a key under a node, which must be in use, for writing, or `None` if the key is not there.
 ///
-/// What is written is the new value at the key, and nothing else changes: the stored key stays, and so does every address. It makes at most
-/// six comparisons at each level from the node down, and needs no new node.
+/// What is written is the new value at the key, and nothing else changes: the stored key stays, and so does every address. It
+/// needs no new node.
 pub fn get_mut_in<'a, K: Ord + 'a, V: 'a, C: NodesMut<K, V>>(
     tree: &'a mut RawBTree<K, V, C>,
     key: &K,

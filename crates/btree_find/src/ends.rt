@@ -7,7 +7,7 @@ use btree_item::{Address, Offset};
 use btree_node::NodesMut;
 use btree_raw::RawBTree;
 
-/// Returns the address of the first item, or `None` if there are no pairs. It reads one node of each level.
+/// Returns the address of the first item, or `None` if there are no pairs.
 pub fn first_item_address<K: Ord, V, C: NodesMut<K, V>>(tree: &RawBTree<K, V, C>) -> Option<Address>
     requires tree { IsBTree K.cmp tree.now }
     ensures { IsFirstItem tree.now result }
@@ -18,7 +18,7 @@ pub fn first_item_address<K: Ord, V, C: NodesMut<K, V>>(tree: &RawBTree<K, V, C>
     Some(Address::new(leftmost_leaf(tree, root), Offset::from(0)))
 }
 
-/// Returns the address of the last item, or `None` if there are no pairs. It reads one node of each level.
+/// Returns the address of the last item, or `None` if there are no pairs.
 pub fn last_item_address<K: Ord, V, C: NodesMut<K, V>>(tree: &RawBTree<K, V, C>) -> Option<Address>
     requires tree { IsBTree K.cmp tree.now }
     ensures { IsLastItem tree.now result }
@@ -30,8 +30,7 @@ pub fn last_item_address<K: Ord, V, C: NodesMut<K, V>>(tree: &RawBTree<K, V, C>)
     Some(Address::new(leaf, Offset::from(count - 1)))
 }
 
-/// Returns offset 0 of the leftmost leaf, where a visit of the back addresses begins, or nowhere if there are no pairs. It reads one
-/// node of each level.
+/// Returns offset 0 of the leftmost leaf, where a visit of the back addresses begins, or nowhere if there are no pairs.
 pub fn first_back_address<K: Ord, V, C: NodesMut<K, V>>(tree: &RawBTree<K, V, C>) -> Address
     requires tree { IsBTree K.cmp tree.now }
     ensures { IsFirstBack tree.now result }
@@ -42,7 +41,7 @@ pub fn first_back_address<K: Ord, V, C: NodesMut<K, V>>(tree: &RawBTree<K, V, C>
     Address::new(leftmost_leaf(tree, root), Offset::from(0))
 }
 
-/// Returns the address past the end of the rightmost leaf, or nowhere if there are no pairs. It reads one node of each level.
+/// Returns the address past the end of the rightmost leaf, or nowhere if there are no pairs.
 pub fn last_valid_address<K: Ord, V, C: NodesMut<K, V>>(tree: &RawBTree<K, V, C>) -> Address
     requires tree { IsBTree K.cmp tree.now }
     ensures { IsLastValid tree.now result }

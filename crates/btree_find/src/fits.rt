@@ -1,4 +1,6 @@
 //! Whether a key fits at the place of an address, or in the place of the item there.
+//!
+//! Each call compares at most two keys. To find each of their items it reads at most one node of each level, and then the item's node again.
 ghost use Rattle.std.specs.Prelude.{◌↔◌, IsTrue};
 ghost use Rattle.btree_laws.specs.TreeState.{IsBTree, IsUsed, IsValidIn};
 ghost use Rattle.btree_find.specs.Fits.{FitsAt, FitsIn, ReplacesAt};
@@ -45,9 +47,6 @@ fn is_below<K: Ord, V, C: NodesMut<K, V>>(
 }
 
 /// Returns whether a key fits at the place of an address: whether it is greater than the key before the place and less than the key there.
-///
-/// It compares at most two keys. To find each of their items it reads at most one node of each level, and then the item's node again.
-/// `RawBTree::is_valid` decides whether an address is valid.
 pub fn fits_at<K: Ord, V, C: NodesMut<K, V>>(
     tree: &RawBTree<K, V, C>,
     addr: Address,
@@ -64,8 +63,7 @@ pub fn fits_at<K: Ord, V, C: NodesMut<K, V>>(
 /// Returns whether an item is at an address and a key may replace its key: whether the key is greater than the key before it and less than
 /// the key after it.
 ///
-/// It compares at most two keys. To find each of their items it reads at most one node of each level, and then the item's node again. It
-/// reads the node of the address once before. `RawBTree::is_valid` decides whether an address is valid.
+/// It reads the node of the address once before.
 pub fn replaces_at<K: Ord, V, C: NodesMut<K, V>>(
     tree: &RawBTree<K, V, C>,
     addr: Address,
@@ -85,8 +83,7 @@ pub fn replaces_at<K: Ord, V, C: NodesMut<K, V>>(
 /// Returns whether a key is between the separators of a node, which must be in use: whether it is greater than the key before those under
 /// the node and less than the key after them.
 ///
-/// It compares at most two keys. To find each of their items it reads at most one node of each level, and then the item's node again. It
-/// reads the node itself once before.
+/// It reads the node itself once before.
 pub fn key_fits_in<K: Ord, V, C: NodesMut<K, V>>(
     tree: &RawBTree<K, V, C>,
     id: usize,

@@ -12,7 +12,7 @@ use btree_item::{Address, Offset};
 use btree_node::{Node, NodesMut};
 use btree_raw::RawBTree;
 
-// Returns the leftmost leaf under a node.
+/// Returns the leftmost leaf under a node.
 pub fn leftmost_leaf<K: Ord, V, C: NodesMut<K, V>>(tree: &RawBTree<K, V, C>, top: usize) -> usize
     requires tree { IsBTree K.cmp tree.now }
     requires used { IsUsed tree.now top }
@@ -28,7 +28,7 @@ pub fn leftmost_leaf<K: Ord, V, C: NodesMut<K, V>>(tree: &RawBTree<K, V, C>, top
     }
 }
 
-/// Returns the address of the first item under a node. It reads one node of each level.
+/// Returns the address of the first item under a node.
 pub fn first_item<K: Ord, V, C: NodesMut<K, V>>(tree: &RawBTree<K, V, C>, id: usize) -> Address
     requires tree { IsBTree K.cmp tree.now }
     requires used { IsUsed tree.now id }
@@ -86,8 +86,6 @@ fn item_from<'a, K: Ord + 'a, V: 'a, C: NodesMut<K, V>>(
 
 /// Returns the address of the item at the place of an address, which is the address itself if there is an item. Returns `None` if
 /// the place is the number of pairs.
-///
-/// It reads at most one node of each level. `RawBTree::is_valid` decides whether an address is valid.
 pub fn normalize<K: Ord, V, C: NodesMut<K, V>>(
     tree: &RawBTree<K, V, C>,
     addr: Address,
@@ -130,8 +128,6 @@ fn item_after<'a, K: Ord + 'a, V: 'a, C: NodesMut<K, V>>(
 
 /// Returns the address of the item after the one at an address. If there is no item, returns the address of the item at its place.
 /// Returns `None` if there is no such item.
-///
-/// It reads at most one node of each level. `RawBTree::is_valid` decides whether an address is valid.
 pub fn next_item_address<K: Ord, V, C: NodesMut<K, V>>(
     tree: &RawBTree<K, V, C>,
     addr: Address,
@@ -150,7 +146,7 @@ pub fn next_item_address<K: Ord, V, C: NodesMut<K, V>>(
     }
 }
 
-// Returns the rightmost leaf under a node, and how many items it has.
+/// Returns the rightmost leaf under a node, and how many items it has.
 pub fn rightmost_leaf<K: Ord, V, C: NodesMut<K, V>>(
     tree: &RawBTree<K, V, C>,
     top: usize,
@@ -221,8 +217,6 @@ fn item_before_offset<'a, K: Ord + 'a, V: 'a, C: NodesMut<K, V>>(
 }
 
 /// Returns the address of the item before the place of an address, or `None` at place 0.
-///
-/// It reads at most one node of each level. `RawBTree::is_valid` decides whether an address is valid.
 pub fn previous_item_address<K: Ord, V, C: NodesMut<K, V>>(
     tree: &RawBTree<K, V, C>,
     addr: Address,
@@ -244,8 +238,6 @@ pub fn previous_item_address<K: Ord, V, C: NodesMut<K, V>>(
 
 /// Returns an address in a leaf with the place of an address: past the last item before the place, or -1 in the first leaf if the address
 /// is at -1. An address in a leaf, or nowhere, is returned as it is.
-///
-/// It reads at most one node of each level. `RawBTree::is_valid` decides whether an address is valid.
 pub fn leaf_address<K: Ord, V, C: NodesMut<K, V>>(
     tree: &RawBTree<K, V, C>,
     addr: Address,
@@ -270,8 +262,6 @@ pub fn leaf_address<K: Ord, V, C: NodesMut<K, V>>(
 
 /// Returns the address of the next item, as `next_item_address` does, if there is one. Otherwise returns the offset after the address if an
 /// item is at it, and else the address itself. Returns `None` if there are no pairs.
-///
-/// It reads at most one node of each level. `RawBTree::is_valid` decides whether an address is valid.
 pub fn next_item_or_back_address<K: Ord, V, C: NodesMut<K, V>>(
     tree: &RawBTree<K, V, C>,
     addr: Address,

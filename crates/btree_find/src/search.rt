@@ -13,8 +13,7 @@ use btree_node::{Node, NodesMut};
 use btree_raw::RawBTree;
 use btree_steps::Steps;
 
-/// Returns `Ok` with the address of a key that is there, or `Err` with the address in a leaf where it would be inserted. It makes at most
-/// six comparisons at each level.
+/// Returns `Ok` with the address of a key that is there, or `Err` with the address in a leaf where it would be inserted.
 pub fn address_of<K: Ord, V, C: NodesMut<K, V>>(
     tree: &RawBTree<K, V, C>,
     key: &K,
@@ -41,7 +40,7 @@ pub fn address_of_counted<K: Ord, V, C: NodesMut<K, V>>(
 }
 
 /// Returns `Ok` with the address of the item whose key a query is equal to, or `Err` with the address in a leaf of the gap where it is. So
-/// no key has to be made for a look-up. It makes at most six tests of the query at each level.
+/// no key has to be made for a look-up.
 pub fn address_by<K: Ord, Q: Query<K>, V, C: NodesMut<K, V>>(
     tree: &RawBTree<K, V, C>,
     query: &Q,
@@ -53,7 +52,6 @@ pub fn address_by<K: Ord, Q: Query<K>, V, C: NodesMut<K, V>>(
     search(tree, query, &mut steps)
 }
 
-// Searches in the whole tree.
 #[inline(always)]
 fn search<K: Ord, Q: Query<K>, V, C: NodesMut<K, V>>(
     tree: &RawBTree<K, V, C>,
@@ -72,8 +70,7 @@ fn search<K: Ord, Q: Query<K>, V, C: NodesMut<K, V>>(
 }
 
 /// Searches among the items under a node, which must be in use. Returns `Ok` with the address of a key that is there, or `Err` with the
-/// back address in a leaf under the node that has as many smaller keys under the node before it. It makes at most six comparisons at each
-/// level from the node down.
+/// back address in a leaf under the node that has as many smaller keys under the node before it.
 pub fn address_in<K: Ord, V, C: NodesMut<K, V>>(
     tree: &RawBTree<K, V, C>,
     top: usize,
@@ -87,7 +84,6 @@ pub fn address_in<K: Ord, V, C: NodesMut<K, V>>(
     search_from(tree, top, key, &mut steps)
 }
 
-// Searches from a node down.
 #[inline(always)]
 fn search_from<K: Ord, Q: Query<K>, V, C: NodesMut<K, V>>(
     tree: &RawBTree<K, V, C>,
@@ -122,8 +118,7 @@ fn value_at<K, V>(node: &Node<K, V>, offset: Offset) -> Option<&V>
     }
 }
 
-/// Returns the value at the key that a key or another query is equal to, or `None` if it is not there. It makes at most six tests of the
-/// query at each level, copies nothing and allocates no memory.
+/// Returns the value at the key that a key or another query is equal to, or `None` if it is not there.
 pub fn get<'a, K: Ord + 'a, Q: Query<K>, V: 'a, C: NodesMut<K, V>>(
     tree: &'a RawBTree<K, V, C>,
     key: &Q,
@@ -137,7 +132,7 @@ pub fn get<'a, K: Ord + 'a, Q: Query<K>, V: 'a, C: NodesMut<K, V>>(
     }
 }
 
-/// Does the same under a node, which must be in use. It makes at most six tests of the query at each level from the node down.
+/// Does what `get` does under a node, which must be in use.
 pub fn get_in<'a, K: Ord + 'a, Q: Query<K>, V: 'a, C: NodesMut<K, V>>(
     tree: &'a RawBTree<K, V, C>,
     key: &Q,

@@ -13,7 +13,6 @@ use btree_item::{Address, Offset};
 use btree_node::{Node, NodesMut};
 use btree_raw::RawBTree;
 
-// Returns the back address after an offset of a node.
 fn back_after<'a, K: Ord + 'a, V: 'a, C: NodesMut<K, V>>(
     tree: &'a RawBTree<K, V, C>,
     node: &'a Node<K, V>,
@@ -43,8 +42,7 @@ fn back_after<'a, K: Ord + 'a, V: 'a, C: NodesMut<K, V>>(
 /// Returns the back address after a back address, in the order of places, or `None` after the last one. After -1 of a node comes the first
 /// back address under the node.
 ///
-/// From the first back address, this visits each back address of the tree once. It reads at most one node of each level.
-/// `RawBTree::is_valid` decides whether an address is valid.
+/// From the first back address, this visits each back address of the tree once.
 pub fn next_back_address<K: Ord, V, C: NodesMut<K, V>>(
     tree: &RawBTree<K, V, C>,
     addr: Address,
@@ -73,7 +71,6 @@ fn slot_before(id: usize, offset: usize) -> Address
     Address::new(id, Offset::from(offset - 1))
 }
 
-// Returns the front address before an offset of a node.
 fn front_before<'a, K: Ord + 'a, V: 'a, C: NodesMut<K, V>>(
     tree: &'a RawBTree<K, V, C>,
     node: &'a Node<K, V>,
@@ -114,8 +111,7 @@ fn front_above<'a, K: Ord + 'a, V: 'a, C: NodesMut<K, V>>(
 /// Returns the front address before a front address, in the order of places, or `None` before the first one. Before the address past the
 /// end of a node comes the last front address under the node.
 ///
-/// From the last item, this visits each front address of the tree once. It reads at most one node of each level.
-/// `RawBTree::is_valid` decides whether an address is valid.
+/// From the last item, this visits each front address of the tree once.
 pub fn previous_front_address<K: Ord, V, C: NodesMut<K, V>>(
     tree: &RawBTree<K, V, C>,
     addr: Address,

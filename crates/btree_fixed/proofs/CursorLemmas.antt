@@ -10,7 +10,7 @@ use Rattle.btree_node.specs.declared.node_stores.NodesMut as nodes_mut
 use Rattle.btree_laws.specs.TreeState.{pairs_of}
 use Rattle.btree_map.specs.Editing.{InsertsEntry, RefusesEntry, entry_front, left_of, passed_of}
 use Rattle.btree_map.specs.declared.cursor.editing.EntriesMut.{EntriesMut}
-use Rattle.btree_fixed.specs.CursorLaws.{whole}
+use Rattle.btree_fixed.proofs.CursorLaws.{whole}
 
 module _ {K V C O : Type 0} {g : ord.Ghosts K} {g' : eq.Ghosts K} {g'' : partial.Ghosts K} {s : nodes_mut.Ghosts C K V O} {s' : nodes.Ghosts C K V}
     (old new : EntriesMut K V C O g g' g'' s s') where

@@ -5,7 +5,7 @@ pub use Rattle.std.proofs.lemmas.List.{length-map, map-append}
 pub use Rattle.std.specs.Option.{option_map}
 pub use Rattle.std.specs.Prelude.{slice_get, ◌==◌}
 pub use Rattle.btree_internal.specs.Internal.{branch_pair, Internal, internal_view}
-pub use Rattle.btree_internal.specs.InternalLends.{internal_with_value_at}
+unfoldable pub use Rattle.btree_internal.specs.InternalLends.{internal_with_value_at}
 pub use Rattle.btree_internal.specs.declared.internal.Branch.{Branch}
 pub use Rattle.btree_item.specs.Pairs.{place_of}
 pub use Rattle.btree_view.specs.View.{internal, items_of, children_of}

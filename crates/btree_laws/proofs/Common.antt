@@ -8,7 +8,7 @@ pub use Rattle.std.proofs.lemmas.Option.{same_Some, slice_get_within, slice_get_
 pub use Rattle.std.specs.Cmp.{IsTotalOrder}
 pub use Rattle.std.specs.FinMap.{len}
 pub use Rattle.std.specs.List.{AllByRecursion, flat_map, insert, remove}
-pub use Rattle.std.specs.List.Sorted.{IsStrictlySortedBy}
+unfoldable pub use Rattle.std.specs.List.Sorted.{IsStrictlySortedBy}
 pub use Rattle.std.specs.Ordering.{nat_cmp}
 pub use Rattle.std.specs.Prelude.{is_some, option_map, slice_get, IsTrue, nat_lt}
 pub use Rattle.std.specs.declared.cmp.Ordering.{Ordering}

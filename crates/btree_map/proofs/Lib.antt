@@ -1,6 +1,8 @@
+-- Maps by key. A file cites those before it. Main theorems: `first-and-rest` and `all-into-none` in ExtensionLemmas, insertions of many pairs;
+-- RangeStarts and RangeSteps, a cursor over a range; EditingLemmas and EditingSteps, an editing cursor.
 pub mod Common
-pub mod EntryLemmas
 pub mod ListLemmas
+pub mod EntryLemmas
 pub mod RemovalLemmas
 pub mod ExtensionLemmas
 pub mod AscendingLemmas

@@ -3,7 +3,7 @@ use Rattle.btree_map.proofs.Common.{◌≡◌, ◌∙◌, List, Option, Some, No
 use Rattle.btree_item.proofs.PairEdits.{before-le-length}
 use Rattle.btree_ext.specs.Exchange.{IsValueExchanged}
 use Rattle.btree_ext.specs.InsertAbsent.{InsertsAbsent}
-use Rattle.btree_ext.specs.WrittenLaws.{written-item}
+use Rattle.btree_ext.proofs.WrittenLaws.{written-item}
 use Rattle.btree_map.specs.Written.{IsInsertedWith, WritesValueAt, list_written, with_value_of}
 use Rattle.btree_map.proofs.ListLemmas.{set-inserted, set-stored, with_value-twice}
 

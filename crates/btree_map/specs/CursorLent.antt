@@ -23,10 +23,11 @@ use Rattle.btree_map.specs.contracts.cursor.editing.EntriesMut.{the_row as entri
 module _ (K V C O : RattleType) {g : ord.Ghosts K.Denot} {g' : eq.Ghosts K.Denot} {g'' : partial.Ghosts K.Denot}
     {s : nodes_mut.Ghosts C.Denot K.Denot V.Denot O.Denot} {s' : nodes.Ghosts C.Denot K.Denot V.Denot} where
   module _ (c : MutBor (IterMut K.Denot V.Denot C.Denot O.Denot g g' g'' s s')) (value : MutBor V.Denot) where
-    -- the cursor is past the first pair that was left, or past the last one
+    -- the value is lent, and the cursor is past the first pair that was left
     abbrev pub lends_front : Fml
     lends_front = Lends (iter_row (record { mir = named 1; lft = [] }) K V C O g g' g'' s s') V c value (past_front c.now)
 
+    -- the value is lent, and the cursor is past the last pair that was left
     abbrev pub lends_back : Fml
     lends_back = Lends (iter_row (record { mir = named 1; lft = [] }) K V C O g g' g'' s s') V c value (past_back c.now)
 
@@ -35,6 +36,7 @@ module _ (K V C O : RattleType) {g : ord.Ghosts K.Denot} {g' : eq.Ghosts K.Denot
     abbrev pub lends_first_in_range : Fml
     lends_first_in_range = Lends (range_row (record { mir = named 1; lft = [] }) K V C O g g' g'' s s') V c value (range.past_first c.now)
 
+    -- the same at the back of a range
     abbrev pub lends_last_in_range : Fml
     lends_last_in_range = Lends (range_row (record { mir = named 1; lft = [] }) K V C O g g' g'' s s') V c value (range.past_last c.now)
 

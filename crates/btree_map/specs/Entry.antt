@@ -17,7 +17,7 @@ use Rattle.btree_laws.specs.TreeState.{TreeState, item_of, pairs_of}
 use Rattle.btree_ext.specs.Insert.{IsRefusedAtGap}
 use Rattle.btree_ext.specs.InsertAbsent.{InsertsAbsent}
 use Rattle.btree_ext.specs.ValueWritten.{value_written}
-use Rattle.btree_ext.specs.WrittenLaws.{written-item}
+use Rattle.btree_ext.proofs.WrittenLaws.{written-item}
 use Rattle.btree_map.specs.Written.{IsInsertedWith, WritesValueAt, list_written}
 use Rattle.btree_map.specs.declared.entry.Entry.{Entry}
 use Rattle.btree_map.specs.declared.entry.Entry.TheVariants.{Vacant, Occupied}

@@ -53,6 +53,7 @@ module _ {K V : Type 0} (cmp : K → K → Ordering) where
     abbrev pub Collects : (source rest : S) → (new : TreeState K V) → Type 0
     Collects source rest new = Extends steps [] source None (pairs_of new) rest
 
+    -- the pairs before a refused one were inserted into a map that began without pairs
     abbrev pub CollectsUntil : (source rest : S) → TreeState K V × Refused K V → Type 0
     CollectsUntil source rest stopped = Extends steps [] source (Some (stopped.1.key, stopped.1.value)) (pairs_of stopped.0) rest
 

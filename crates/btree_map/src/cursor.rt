@@ -18,13 +18,14 @@ use btree_item::Address;
 use btree_node::NodesMut;
 pub use editing::EntriesMut;
 
-/// A cursor over the pairs of a map, in the order of the keys and from both ends, that lends one value for writing at a time.
+/// A cursor over the pairs of a map, in the order of the keys and from both ends, that lends one value for writing at a time. A step reads
+/// at most one node of each level, needs no new node and cannot fail.
 ///
 /// It is no `Iterator`, since a value is lent only until the next call.
 #[derive(Drop)]
 pub struct IterMut<'a, K: Ord, V, C: NodesMut<K, V>> {
     pub(crate) map: &'a mut BTreeMap<K, V, C>,
-    // The address of the item at place `front`, and that of the item before place `back`.
+    /// The address of the item at place `front`, and that of the item before place `back`.
     pub(crate) first: Option<Address>,
     pub(crate) last: Option<Address>,
     pub(crate) front: usize,
@@ -34,13 +35,14 @@ pub struct IterMut<'a, K: Ord, V, C: NodesMut<K, V>> {
     ghost within: { back ≤ length (item_addresses_of map.now) },
 }
 
-/// A cursor over the values of a map in the order of the keys, that lends one value for writing at a time.
+/// A cursor over the values of a map in the order of the keys, that lends one value for writing at a time. A step reads at most one node of
+/// each level, needs no new node and cannot fail.
 ///
 /// It is no `Iterator`, since a value is lent only until the next call.
 #[derive(Drop)]
 pub struct ValuesMut<'a, K: Ord, V, C: NodesMut<K, V>> {
     pub(crate) map: &'a mut BTreeMap<K, V, C>,
-    // The address of the item at place `front`.
+    /// The address of the item at place `front`.
     pub(crate) first: Option<Address>,
     pub(crate) front: usize,
     pub(crate) back: usize,
@@ -49,13 +51,13 @@ pub struct ValuesMut<'a, K: Ord, V, C: NodesMut<K, V>> {
 }
 
 /// A cursor over the pairs of a map between two bounds, in the order of the keys and from both ends, that lends one value for writing at a
-/// time.
+/// time. A step reads at most one node of each level, compares no keys, needs no new node and cannot fail.
 ///
 /// It is no `Iterator`, since a value is lent only until the next call.
 #[derive(Drop)]
 pub struct RangeMut<'a, K: Ord, V, C: NodesMut<K, V>> {
     pub(crate) map: &'a mut BTreeMap<K, V, C>,
-    // The address of the first item from the start on that is not passed, and that of the last one up to the end.
+    /// The address of the first item from the start on that is not passed, and that of the last one up to the end.
     pub(crate) first: Option<Address>,
     pub(crate) last: Option<Address>,
     pub(crate) any_left: bool,

@@ -17,7 +17,7 @@ pub use steps::{run_out, seek_from};
 /// A `for` loop cannot take it, since its drop requires that the closure may be called: write `while let Some(pair) = drain.next()`.
 pub struct DrainFilter<'a, K: Ord, V, C: NodesMut<K, V>, F: FnMut(&K, &mut V) -> bool> {
     pub(crate) map: &'a mut BTreeMap<K, V, C>,
-    // The address of the item at place `front`: so many pairs were kept.
+    /// The address of the item at place `front`: so many pairs were kept.
     pub(crate) first: Option<Address>,
     pub(crate) front: usize,
     pub(crate) test: ByPair<F>,

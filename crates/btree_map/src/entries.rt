@@ -14,10 +14,10 @@ use btree_ext::BTreeExt;
 use btree_node::NodesMut;
 
 impl<K: Ord, V, C: NodesMut<K, V>> BTreeMap<K, V, C> {
-    /// Returns the entry of a key, to read, insert, change or remove its value after one search. If an equal key is there, it stays, and the
+    /// Returns the entry of a key, to read, insert, change or remove its value. If an equal key is there, it stays, and the
     /// given one is dropped.
     ///
-    /// It makes at most six comparisons at each level, changes nothing and allocates no memory.
+    /// It searches once, and changes nothing.
     pub fn entry(&mut self, key: K) -> Entry<'_, K, V, C>
     where
         K: Drop,

@@ -15,7 +15,7 @@ use btree_item::Address;
 use btree_node::{Node, NodesMut};
 use btree_store::SlabStore;
 
-/// The entry of a key in a map, from one search.
+/// The entry of a key in a map, from one search. Its calls compare no keys. A refused insertion returns key and value.
 #[derive(Drop)]
 pub enum Entry<'a, K: Ord, V, C: NodesMut<K, V> = SlabStore<Node<K, V>>> {
     /// The key is not there.
@@ -25,6 +25,8 @@ pub enum Entry<'a, K: Ord, V, C: NodesMut<K, V> = SlabStore<Node<K, V>>> {
 }
 
 /// The entry of a key that is not there, with the place where it would be.
+///
+/// An insertion compares no keys. It uses the same nodes as an insertion by key, and returns the same errors, with key and value.
 #[derive(Drop)]
 pub struct VacantEntry<'a, K: Ord, V, C: NodesMut<K, V> = SlabStore<Node<K, V>>> {
     pub(crate) map: &'a mut BTreeMap<K, V, C>,
@@ -34,7 +36,7 @@ pub struct VacantEntry<'a, K: Ord, V, C: NodesMut<K, V> = SlabStore<Node<K, V>>>
     ghost stands: { IsGapOf K.cmp key map.now gap },
 }
 
-/// The entry of a key that is there.
+/// The entry of a key that is there. Its calls compare no keys, and cannot fail. A removal frees at most as many nodes as the map has levels.
 #[derive(Drop)]
 pub struct OccupiedEntry<'a, K: Ord, V, C: NodesMut<K, V> = SlabStore<Node<K, V>>> {
     pub(crate) map: &'a mut BTreeMap<K, V, C>,

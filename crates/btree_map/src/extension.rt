@@ -31,8 +31,8 @@ fn is_above<K: Ord + Drop, V: Drop, C: NodesMut<K, V>>(
 }
 
 /// Inserts a pair, for types that stand on a map. It leaves the list that `insert` leaves, drops a value that it replaces, and fails as
-/// `insert` does. First it compares the key with that of the last pair, if the address of that is given, and if it is greater with no other.
-/// Returns the address of the last pair, if that is known now.
+/// `insert` does. Where the address of the last pair is given, it compares the key with the last one first. A greater key is compared with
+/// no other. Returns the address of the last pair, if that is known now.
 pub fn insert_in_order<K: Ord + Drop, V: Drop, C: NodesMut<K, V>>(
     map: &mut BTreeMap<K, V, C>,
     last: Option<Address>,

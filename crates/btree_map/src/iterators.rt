@@ -12,8 +12,7 @@ use std::iter::IntoIterator;
 use std::ops::RangeBounds;
 
 impl<K: Ord, V, C: NodesMut<K, V>> BTreeMap<K, V, C> {
-    /// Returns an iterator over the pairs in the order of the keys, from both ends. A whole walk from the front fetches each node once. It
-    /// allocates no memory.
+    /// Returns an iterator over the pairs in the order of the keys, from both ends. A whole walk from the front fetches each node once.
     pub fn iter(&self) -> Iter<'_, K, V, C>
         ensures { result ≡ pairs_of self.now }
     {
@@ -24,8 +23,8 @@ impl<K: Ord, V, C: NodesMut<K, V>> BTreeMap<K, V, C> {
     /// or absent, from both ends. The start must be at most the end, and they may not be equal if both are excluded: `is_valid_range` tells.
     /// A `RangeInclusive` must not be one that was iterated to its end.
     ///
-    /// It reads at most three nodes of each level, and allocates no memory. It makes at most six comparisons in each node on the way to the
-    /// start, one more if the start is excluded, and from there on at most one for each item until the end.
+    /// It reads at most three nodes of each level. It makes at most six comparisons in each node on the way to the start, one more if the
+    /// start is excluded, and from there on at most one for each item until the end.
     pub fn range<R: RangeBounds<K> + Drop>(&self, range: R) -> Range<'_, K, V, C>
         requires bounds { R.has_bounds range }
         requires valid { is_valid K.cmp (R.start_bound range) (R.end_bound range) ≡ true }

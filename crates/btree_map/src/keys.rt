@@ -10,7 +10,7 @@ use btree_item::{Address, Query};
 use btree_node::NodesMut;
 use std::ops::Index;
 
-// Returns the pair at an address, or `None` if no item is there.
+/// Returns the pair at an address, or `None` if no item is there.
 pub(crate) fn pair_at<K: Ord, V, C: NodesMut<K, V>>(
     tree: &Tree<K, V, C>,
     addr: Address,
@@ -24,7 +24,7 @@ pub(crate) fn pair_at<K: Ord, V, C: NodesMut<K, V>>(
 }
 
 impl<K: Ord, V, C: NodesMut<K, V>> BTreeMap<K, V, C> {
-    /// Returns the stored key that is equal to the given one, and its value, or `None`. It makes at most six comparisons at each level.
+    /// Returns the stored key that is equal to the given one, and its value, or `None`.
     pub fn get_key_value(&self, key: &K) -> Option<(&K, &V)>
         ensures { option_map (λ p. (p.0.now, p.1.now)) result ≡ found K.cmp key.now (pairs_of self.now) }
     {
@@ -44,14 +44,14 @@ impl<K: Ord, V, C: NodesMut<K, V>> BTreeMap<K, V, C> {
         }
     }
 
-    /// Returns whether a key is equal to the given one. It makes at most six comparisons at each level.
+    /// Returns whether a key is equal to the given one.
     pub fn contains_key(&self, key: &K) -> bool
         ensures { IsTrue result ↔ IsSome (found K.cmp key.now (pairs_of self.now)) }
     {
         self.tree.get(key).is_some()
     }
 
-    /// Returns whether a query is equal to a key. It makes at most six tests of the query at each level.
+    /// Returns whether a query is equal to a key.
     pub fn contains_key_by<Q: Query<K>>(&self, query: &Q) -> bool
         ensures { IsTrue result ↔ IsSome (found Q.compare query.now (pairs_of self.now)) }
     {

@@ -11,6 +11,9 @@ use btree_raw::RawBTree;
 use std::marker::Model;
 
 /// A map from keys to values in the order of the keys: a B-tree with its nodes in a store.
+///
+/// A search by a key or another query makes at most six comparisons at each level. The removal of a pair frees at most as many nodes as the
+/// tree has levels, and cannot fail. Only a call that may add a pair, and `clone`, allocates memory.
 #[derive(Drop)]
 pub struct BTreeMap<K: Ord, V, C: NodesMut<K, V>> {
     pub(crate) tree: Tree<K, V, C>,
@@ -37,7 +40,7 @@ impl<K: Ord, V, C: NodesMut<K, V>> BTreeMap<K, V, C> {
     ghost use Rattle.btree_ext.specs.Outcomes.{ExchangesLent, ExchangesLentBy};
     ghost use Rattle.btree_map.specs.Lent.{lends_at_key, lends_by};
 
-    /// Returns a map without pairs, over an empty store made from `origin`. It allocates no memory.
+    /// Returns a map without pairs, over an empty store made from `origin`.
     ///
     /// The contract requires that a node fits in memory. The prover finds that by itself if the types of key and value are known.
     pub fn new(origin: C::Origin) -> Self
@@ -50,8 +53,8 @@ impl<K: Ord, V, C: NodesMut<K, V>> BTreeMap<K, V, C> {
         }
     }
 
-    /// Returns a map without pairs that has at most `limit`, over an empty store made from `origin`. It allocates no memory. With the limit 0
-    /// every absent key is refused.
+    /// Returns a map without pairs that has at most `limit`, over an empty store made from `origin`. With the limit 0 every absent key is
+    /// refused.
     ///
     /// The contract requires that a node fits in memory, as that of `new`.
     pub fn with_limit(origin: C::Origin, limit: usize) -> Self
@@ -64,8 +67,7 @@ impl<K: Ord, V, C: NodesMut<K, V>> BTreeMap<K, V, C> {
         }
     }
 
-    /// Returns a map without pairs, over an empty store; the store's `len` tells whether it is empty. It keeps its count of refusals,
-    /// and allocates no memory.
+    /// Returns a map without pairs, over an empty store; the store's `len` tells whether it is empty. It keeps its count of refusals.
     ///
     /// The contract requires that a node fits in memory, as that of `new`.
     pub fn in_store(nodes: C) -> Self
@@ -100,8 +102,7 @@ impl<K: Ord, V, C: NodesMut<K, V>> BTreeMap<K, V, C> {
         self.len() == 0
     }
 
-    /// Returns the value at a key equal to the given one, or `None`. It makes at most six comparisons at each level, copies nothing and
-    /// allocates no memory.
+    /// Returns the value at a key equal to the given one, or `None`. It copies nothing.
     pub fn get(&self, key: &K) -> Option<&V>
         ensures { option_copied result ≡ found_value K.cmp key.now (pairs_of self.now) }
     {
@@ -117,7 +118,7 @@ impl<K: Ord, V, C: NodesMut<K, V>> BTreeMap<K, V, C> {
     }
 
     /// Returns the value at a key equal to the given one for writing, or `None`. What is written replaces the value, and nothing else
-    /// changes: the stored key stays, and so does every address. It makes at most six comparisons at each level.
+    /// changes: the stored key stays, and so does every address.
     pub fn get_mut(&mut self, key: &K) -> Option<&mut V>
         ensures* writes_back { sem 𝓛 (lends_at_key
             K.row V.row C.row C.Origin.row K.Ord C.NodesMut self.entry key.now result) }
@@ -148,7 +149,7 @@ impl<K: Ord, V, C: NodesMut<K, V>> BTreeMap<K, V, C> {
     }
 
     /// Returns a raw tree as a map, if it is well formed and within its limit, and else as it was, with the fault that `validate` returns.
-    /// It reads each node of a well formed tree once, copies nothing and uses no memory but the stack.
+    /// It reads each node of a well formed tree once, and copies nothing.
     pub fn from_raw(raw: RawBTree<K, V, C>) -> Result<Self, (RawBTree<K, V, C>, Fault)>
         ensures exact { IsOk result ↔ IsBTreeWithinLimit raw K.cmp }
         ensures kept { IfOk result (λ map. map ≡ raw) }
@@ -191,7 +192,7 @@ impl<K: Ord + Drop, V: Drop, C: NodesMut<K, V>> BTreeMap<K, V, C> {
         self.tree.insert(key, value)
     }
 
-    // Inserts a pair whose key is not there at the address of its gap, as `Tree::insert_absent` does.
+    /// Inserts a pair whose key is not there at the address of its gap, as `Tree::insert_absent` does.
     pub(crate) fn insert_absent(
         &mut self,
         gap: Address,
@@ -228,7 +229,7 @@ impl<K: Ord + Drop, V: Drop, C: NodesMut<K, V>> BTreeMap<K, V, C> {
 
     /// Removes a key equal to the given one, and returns its value. Returns `None`, and nothing changes, if there is none.
     ///
-    /// It searches once: it makes at most six comparisons at each level. It frees at most as many nodes as the tree has levels and cannot fail.
+    /// It searches once.
     pub fn remove(&mut self, key: &K) -> Option<V>
         ensures value { result ≡ found_value K.cmp key.now (pairs_of self.old) }
         ensures removed { pairs_of self.new ≡ removed K.cmp key.now (pairs_of self.old) }

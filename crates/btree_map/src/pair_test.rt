@@ -9,10 +9,10 @@ use std::marker::Model;
 ///
 /// `ByPair` and `ByKey` make one from a closure.
 pub trait PairTest<K, V>: Drop {
-    // The test may be called at this key and value.
+    /// The test may be called at this key and value.
     ghost accepts: { Self → K → V → Type 0 };
 
-    // A call at this key and value may return this, and leave this value and this state.
+    /// A call at this key and value may return this, and leave this value and this state.
     ghost step: { Self → K → V → Bool → V → Self → Type 0 };
 
     /// Returns whether the pair passes.

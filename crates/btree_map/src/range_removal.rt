@@ -11,7 +11,6 @@ use btree_ext::BTreeExt;
 use btree_node::NodesMut;
 use std::ops::{Bound, RangeBounds};
 
-// Returns whether a key is past an end bound.
 fn is_past<K: Ord>(end: Bound<&K>, key: &K) -> bool
     ensures { result ≡ is_past_end K.cmp (bound_key end.entry) key.now }
 {
@@ -43,7 +42,6 @@ fn remove_next<'a, 'b, K: Ord + Drop, V: Drop, C: NodesMut<K, V>>(
     true
 }
 
-// Removes the pairs between two bounds.
 fn remove_between<K: Ord + Drop, V: Drop, C: NodesMut<K, V>>(
     map: &mut BTreeMap<K, V, C>,
     start: Bound<&K>,

@@ -12,7 +12,7 @@ use btree_node::NodesMut;
 impl<K: Ord + Drop, V: Drop, C: NodesMut<K, V>> BTreeMap<K, V, C> {
     /// Removes the first pair, and returns it. Returns `None`, and nothing changes, if there are no pairs.
     ///
-    /// It compares no keys. It frees at most as many nodes as the tree has levels and cannot fail.
+    /// It compares no keys.
     pub fn pop_first(&mut self) -> Option<(K, V)>
         ensures pair { result ≡ slice_get (pairs_of self.old) 0 }
         ensures rest { YieldsFirst pairs_of self.old result self.new }
@@ -30,7 +30,7 @@ impl<K: Ord + Drop, V: Drop, C: NodesMut<K, V>> BTreeMap<K, V, C> {
 
     /// Removes the last pair, and returns it. Returns `None`, and nothing changes, if there are no pairs.
     ///
-    /// It compares no keys. It frees at most as many nodes as the tree has levels and cannot fail.
+    /// It compares no keys.
     pub fn pop_last(&mut self) -> Option<(K, V)>
         ensures pair { result ≡ last_of (pairs_of self.old) }
         ensures rest { YieldsLast pairs_of self.old result self.new }

@@ -26,6 +26,10 @@ use std::mem;
 pub type PoppedItem<K, V> = (Offset, Item<K, V>, Option<usize>);
 
 /// A node: an internal node or a leaf. Contracts see either as its view.
+///
+/// A call that looks for a key makes at most six comparisons. The other calls that change a node compare no keys, and touch no node but
+/// those that they are given: the order of the keys and the parents of the children are then up to the caller. A parent
+/// `Some(usize::MAX)` is read as `None`.
 #[derive(Clone, Drop)]
 pub enum Node<K, V> {
     Internal(InternalNode<K, V>),
@@ -48,6 +52,7 @@ impl<K, V> Node<K, V> {
         }
     }
 
+    /// Returns how many items there are. It reads no item.
     pub fn item_count(&self) -> usize
         ensures value { result ≡ size_of (view_of self.now) }
         ensures fits { result ≤ LEAF_SLOTS }
@@ -141,7 +146,7 @@ impl<K, V> Node<K, V> {
         }
     }
 
-    /// Returns the item at an offset for writing, or `None` at -1 and past the end. The order of the keys is then up to the caller.
+    /// Returns the item at an offset for writing, or `None` at -1 and past the end.
     pub fn item_mut(&mut self, offset: Offset) -> Option<&mut Item<K, V>>
         ensures* writes_back { sem 𝓛 (node_lends_item K.row V.row self.entry offset result) }
         ensures value { option_copied_mut result ≡ item_at_offset (view_of self.old) offset }
@@ -224,7 +229,7 @@ impl<K, V> Node<K, V> {
 }
 
 impl<K, V> Node<K, V> {
-    /// Sets the parent. `Some(usize::MAX)` is read as `None`.
+    /// Sets the parent.
     pub fn set_parent(&mut self, parent: Option<usize>)
         ensures { view_of self.new ≡ with_parent (kept_parent parent) (view_of self.old) }
     {
@@ -242,14 +247,14 @@ impl<K: Drop, V: Drop> Node<K, V> {
     ghost use Rattle.btree_view.specs.View.{leaf, internal, last_child_of, last_item_of};
     ghost use Rattle.btree_view.specs.Edits.{HasSpare, HaveRoom, joined, left_behind, PopsLeft, PopsRight, pushed_left, pushed_right, with_item_at, with_items, with_other_item_at, without, without_at, without_last};
 
-    /// Returns a leaf with one item. `Some(usize::MAX)` as the parent is read as `None`.
+    /// Returns a leaf with one item.
     pub fn leaf(parent: Option<usize>, item: Item<K, V>) -> Self
         ensures { view_of result ≡ leaf (kept_parent parent) (item ∷ []) }
     {
         Node::Leaf(LeafNode::new(parent, item))
     }
 
-    /// Returns an internal node with one item between two children. `Some(usize::MAX)` as the parent is read as `None`.
+    /// Returns an internal node with one item between two children.
     pub fn binary(
         parent: Option<usize>,
         left_id: usize,
@@ -261,8 +266,7 @@ impl<K: Drop, V: Drop> Node<K, V> {
         Node::Internal(InternalNode::binary(parent, left_id, median, right_id))
     }
 
-    /// Inserts an item at an offset, in an internal node with a child after it, and moves those from there on right by one. The order of
-    /// the keys and the child's parent are then up to the caller.
+    /// Inserts an item at an offset, in an internal node with a child after it, and moves those from there on right by one.
     pub fn insert(&mut self, offset: Offset, item: Item<K, V>, opt_right: Option<usize>)
         requires room { size_of (view_of self.old) ≤ most_of (view_of self.old) }
         requires within { IsSomeAnd offset (λ index. index ≤ size_of (view_of self.old)) }
@@ -278,8 +282,7 @@ impl<K: Drop, V: Drop> Node<K, V> {
         }
     }
 
-    /// Replaces the item at an offset of an internal node, and returns the old one. The children stay. The order of the keys is then up
-    /// to the caller.
+    /// Replaces the item at an offset of an internal node, and returns the old one. The children stay.
     pub fn replace(&mut self, offset: Offset, item: Item<K, V>) -> Item<K, V>
         requires kind { IsTrue (is_internal (view_of self.old)) }
         requires occupied { IsSomeAnd offset (λ index. index < size_of (view_of self.old)) }
@@ -346,7 +349,6 @@ impl<K: Drop, V: Drop> Node<K, V> {
     }
 
     /// Appends the separator and then what the other node, of the same kind, holds. Each item moves once. Returns the separator's offset.
-    /// The order of the keys and the parents of the children are up to the caller.
     pub fn append(&mut self, separator: Item<K, V>, other: Node<K, V>) -> Offset
         requires kind { is_internal (view_of other) ≡ is_internal (view_of self.old) }
         requires room { HaveRoom (view_of self.old) (view_of other) }
@@ -358,8 +360,7 @@ impl<K: Drop, V: Drop> Node<K, V> {
     }
 
     /// Appends the separator and then what the other node, of the same kind, holds. The other node keeps only its parent and, as an internal
-    /// node, its first child. Each item moves once, and no node is passed by value. Returns the separator's offset. The order of the
-    /// keys and the parents of the children are up to the caller.
+    /// node, its first child. Each item moves once, and no node is passed by value. Returns the separator's offset.
     pub fn append_from(&mut self, separator: Item<K, V>, other: &mut Node<K, V>) -> Offset
         requires kind { is_internal (view_of other.old) ≡ is_internal (view_of self.old) }
         requires room { HaveRoom (view_of self.old) (view_of other.old) }
@@ -396,8 +397,7 @@ impl<K: Drop, V: Drop> Node<K, V> {
         }
     }
 
-    /// Inserts an item before the others, and in an internal node a child before the others. The order of the keys and the child's parent
-    /// are then up to the caller.
+    /// Inserts an item before the others, and in an internal node a child before the others.
     pub fn push_left(&mut self, item: Item<K, V>, opt_child: Option<usize>)
         requires room { size_of (view_of self.old) ≤ most_of (view_of self.old) }
         requires child { HasChildFor opt_child (view_of self.old) }
@@ -412,8 +412,7 @@ impl<K: Drop, V: Drop> Node<K, V> {
         }
     }
 
-    /// Appends an item, and in an internal node a child after it. Returns the item's offset. The order of the keys and the child's parent
-    /// are then up to the caller.
+    /// Appends an item, and in an internal node a child after it. Returns the item's offset.
     pub fn push_right(&mut self, item: Item<K, V>, opt_child: Option<usize>) -> Offset
         requires room { size_of (view_of self.old) ≤ most_of (view_of self.old) }
         requires child { HasChildFor opt_child (view_of self.old) }
@@ -500,8 +499,7 @@ impl<K: Drop, V: Drop> Node<K, V> {
     }
 
     /// Keeps the first items of a node with one too many: four in a leaf, three in an internal node. Returns how many are kept, the
-    /// median, and a node of the same kind with the items after it, under the same parent. The parents of the children are then up to the
-    /// caller.
+    /// median, and a node of the same kind with the items after it, under the same parent.
     pub fn split(&mut self) -> (usize, Item<K, V>, Node<K, V>)
         requires { IsOverflowing (view_of self.old) }
         ensures parts { IsSplit (view_of self.old) result.1 (view_of self.new) (view_of result.2) }
@@ -522,7 +520,7 @@ impl<K: Drop, V: Drop> Node<K, V> {
 
     /// Keeps the first items of a node with one too many, as `split` does, and moves those after the median into `part`: a leaf without
     /// items, which becomes a node of the same kind under the same parent. Returns how many are kept, and the median. Each item of a leaf
-    /// moves once, and no leaf is passed by value. The parents of the children are then up to the caller.
+    /// moves once, and no leaf is passed by value.
     pub fn split_into(&mut self, part: &mut Node<K, V>) -> (usize, Item<K, V>)
         requires over { IsOverflowing (view_of self.old) }
         requires leaf { is_internal (view_of part.old) ≡ false }
@@ -552,7 +550,6 @@ impl<K: Ord, V> Node<K, V> {
     ghost use Rattle.btree_node.specs.NodeLends.{node_lends};
 
     /// Returns `Ok` with the value at a key, or with `None` in a leaf without it, or `Err` with the number of the child that may hold it.
-    /// It makes at most six comparisons.
     pub fn get(&self, key: &K) -> Result<Option<&V>, usize>
         requires { Ascends K.cmp (items_of (view_of self.now)) }
         ensures { result_map option_copied result ≡ look_up K.cmp key.now (view_of self.now) }
@@ -567,8 +564,7 @@ impl<K: Ord, V> Node<K, V> {
     }
 
     /// Returns `Ok` with the value at a key for writing, or with `None` in a leaf without it, or `Err` with the number of the child that
-    /// may hold it. It makes at most six comparisons. The contract does not say what is written: a caller that needs that uses
-    /// `find_mut`.
+    /// may hold it. The contract does not say what is written: a caller that needs that uses `find_mut`.
     pub fn get_mut(&mut self, key: &K) -> Result<Option<&mut V>, usize>
         requires { Ascends K.cmp (items_of (view_of self.old)) }
         ensures { result_map option_copied_mut result ≡ look_up K.cmp key.now (view_of self.old) }
@@ -581,7 +577,7 @@ impl<K: Ord, V> Node<K, V> {
     }
 
     /// Returns `Ok` with the value at a key for writing, or `Err` with the number of the child that may hold it, which a leaf does not
-    /// have. It makes at most six comparisons.
+    /// have.
     pub fn find_mut(&mut self, key: &K) -> Result<&mut V, Option<usize>>
         requires { Ascends K.cmp (items_of (view_of self.old)) }
         ensures* writes_back { sem 𝓛 (node_lends K.row V.row K.cmp self.entry key.now result) }
@@ -600,7 +596,7 @@ impl<K: Ord, V> Node<K, V> {
     }
 
     /// Returns `Ok` with the offset of a key that is there, or `Err` with the number of smaller keys, which is the index of the child
-    /// that may hold it, and the child's number. It makes at most six comparisons.
+    /// that may hold it, and the child's number.
     #[inline(always)]
     pub fn offset_of<Q: Query<K>>(&self, key: &Q) -> Result<Offset, (usize, Option<usize>)>
         requires { Ascends K.cmp (items_of (view_of self.now)) }
@@ -611,7 +607,7 @@ impl<K: Ord, V> Node<K, V> {
         self.offset_of_counted(key, &mut steps)
     }
 
-    /// Does the same as `offset_of`, and ticks once for each comparison of keys, at most six times.
+    /// Does the same as `offset_of`, and ticks once for each comparison of keys.
     #[inline(always)]
     pub fn offset_of_counted<Q: Query<K>>(
         &self,
@@ -663,9 +659,9 @@ impl<K: Ord + Drop, V: Drop> Node<K, V> {
     ghost use Rattle.btree_internal.specs.Insertion.{NamesChildFor};
     ghost use Rattle.btree_view.specs.Insertion.{with_inserted};
 
-    /// Inserts a value by its key, with at most six comparisons: a key that is there stays and gets the new value, and the given key is
-    /// dropped. Returns the offset, and the old value if there was one. An internal node that does not hold the key stays as it is, and
-    /// the error names the child that may hold it. A leaf needs room.
+    /// Inserts a value by its key: a key that is there stays and gets the new value, and the given key is dropped. Returns the offset,
+    /// and the old value if there was one. An internal node that does not hold the key stays as it is, and the error names the child that
+    /// may hold it. A leaf needs room.
     pub fn insert_by_key(
         &mut self,
         key: K,

@@ -14,7 +14,7 @@ use Rattle.btree_laws.proofs.Trees.States.{height_held}
 use Rattle.btree_laws.proofs.Trees.Stores.{len-views}
 use Rattle.btree_owned_walk.specs.NodesLeft.{nodes_under}
 use Rattle.btree_owned_walk.specs.Leaving.{HoldsLeft, IsLeaving, Remains, nodes_of}
-use Rattle.btree_owned_walk.specs.LeavingLaws.{none-of}
+use Rattle.btree_owned_walk.proofs.LeavingLaws.{none-of}
 use Rattle.btree_owned_walk.proofs.RestLemmas.{root-at-first, gone-none}
 use Rattle.btree_owned_walk.proofs.LastLemmas.{first-keeps-last, init-snoc, last-keeps-first}
 use Rattle.btree_owned_walk.proofs.CountLemmas.{counted, counts-first, counts-last, counts-start}

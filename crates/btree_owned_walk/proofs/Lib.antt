@@ -1,3 +1,5 @@
+-- What is left of a tree while its pairs are taken out. A file cites those before it. Main theorem: `next-leaving` in LeavingLemmas, a step takes
+-- the first pair, and leaves the nodes that still hold one.
 pub mod Common
 pub mod RestLemmas
 pub mod FirstLemmas
@@ -10,4 +12,5 @@ pub mod StretchLemmas
 pub mod StepLemmas
 pub mod BackLemmas
 pub mod LeafLemmas
+pub mod LeavingLaws
 pub mod LeavingLemmas

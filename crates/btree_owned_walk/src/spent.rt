@@ -26,7 +26,7 @@ fn is_spent<K, V, C: NodesMut<K, V>>(tree: &RawBTree<K, V, C>, id: usize) -> boo
     true
 }
 
-// Removes the nodes in which nothing is left, from one upward. Returns the lowest one that is left, or the last one that was removed.
+/// Removes the nodes in which nothing is left, from one upward. Returns the lowest one that is left, or the last one that was removed.
 pub(crate) fn release_spent<K: Drop, V: Drop, C: NodesMut<K, V>>(
     tree: &mut RawBTree<K, V, C>,
     start: usize,

@@ -19,6 +19,7 @@ abbrev pub AreRunsFrom : (low : ℕ) → List (ℕ × ℕ) → Type 0
 AreRunsFrom low [] = Unit {0}
 AreRunsFrom low (range ∷ ranges) = (low ≤ range.0) × (range.0 < range.1) × AreRunsFrom (suc range.1) ranges
 
+-- the ranges ascend, none is empty, and no two touch
 abbrev pub AreRuns : List (ℕ × ℕ) → Type 0
 AreRuns ranges = AreRunsFrom 0 ranges
 

@@ -9,6 +9,7 @@ use Rattle.btree_store.specs.Content.{Content}
 use Rattle.btree_node.specs.declared.node.Node.{Node}
 use Rattle.btree_laws.specs.TreeState.{IsBTree, Kept, TreeState, coded_kept, pairs_of, refused_once}
 
+-- a set of ranges as contracts see it: its ranges in order, its limit and its count of refusals
 pub record RangeState : Type 0 where
   pub ranges : List (ℕ × ℕ)
   pub kept : Kept

@@ -20,8 +20,10 @@ module _ (end : ℕ) (old other new : List (ℕ × ℕ)) where
   abbrev pub IsUnionBelow : Type 0
   IsUnionBelow = (n : ℕ) → has_number new n ≡ (has_number old n || (nat_lt n end && has_number other n))
 
+  -- below `end` the numbers of the other set are taken away; from there on nothing has changed
   abbrev pub IsDifferenceBelow : Type 0
   IsDifferenceBelow = (n : ℕ) → has_number new n ≡ (has_number old n && not (nat_lt n end && has_number other n))
 
+  -- below `end` only the numbers of the other set are left; from there on nothing has changed
   abbrev pub IsIntersectionBelow : Type 0
   IsIntersectionBelow = (n : ℕ) → has_number new n ≡ (has_number old n && (nat_le end n || has_number other n))

@@ -12,7 +12,7 @@ use std::alloc::AllocError;
 
 impl<C: NodesMut<u64, u64>> RangeSet<C> {
     /// Returns whether two sets, which may have different stores, have the same numbers. It compares each range once, up to the first that
-    /// differs, and allocates no memory.
+    /// differs.
     pub fn same_numbers<D: NodesMut<u64, u64>>(&self, other: &RangeSet<D>) -> bool
         ensures ranges { result ≡ ranges_eq self.now.ranges other.now.ranges }
         ensures numbers { IsTrue result ↔ ((n : ℕ) →

@@ -11,7 +11,7 @@ use btree_item::{Address, Item, Refused};
 use btree_map::BTreeMap;
 use btree_node::NodesMut;
 
-// Returns the range that a number is in.
+/// Returns the range that a number is in.
 pub(crate) fn range_around<C: NodesMut<u64, u64>>(
     map: &BTreeMap<u64, u64, C>,
     number: u64,
@@ -84,7 +84,7 @@ fn join<C: NodesMut<u64, u64>>(map: &mut BTreeMap<u64, u64, C>, at: Address, sta
     map.replace_at(at, start, last);
 }
 
-// Adds the numbers from `start` up to `end`, which are some.
+/// Adds the numbers from `start` up to `end`. There is at least one.
 pub(crate) fn add<C: NodesMut<u64, u64>>(
     map: &mut BTreeMap<u64, u64, C>,
     start: u64,
@@ -181,7 +181,7 @@ fn cut<C: NodesMut<u64, u64>>(
     }
 }
 
-// Takes the numbers from `start` up to `end` out, which are some.
+/// Removes the numbers from `start` up to `end`. There is at least one.
 pub(crate) fn subtract<C: NodesMut<u64, u64>>(
     map: &mut BTreeMap<u64, u64, C>,
     start: u64,

@@ -40,7 +40,7 @@ impl<C: NodesMut<u64, u64>> RangeSet<C> {
         Ok(())
     }
 
-    // Removes the ranges that `source` gives, in order, as `remove` does. Returns the first one that is refused.
+    /// Removes the ranges that `source` gives, in order, as `remove` does. Returns the first one that is refused.
     #[tactic(auto, using(crate::proofs::SeriesLemmas::series))]
     pub(crate) fn remove_each<I: Iterator<Item = (u64, u64)>>(
         &mut self,

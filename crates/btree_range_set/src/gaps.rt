@@ -77,7 +77,7 @@ impl<'a, C: NodesMut<u64, u64>> FusedIterator for Gaps<'a, C> {}
 
 impl<C: NodesMut<u64, u64>> RangeSet<C> {
     /// Returns an iterator over the gaps from `start` up to `end`, in ascending order: of the numbers from `start` on that are below `end`, the
-    /// maximal runs of those that are not in the set. There are none if `start` is at least `end`. It allocates no memory.
+    /// maximal runs of those that are not in the set. There are none if `start` is at least `end`.
     pub fn gaps(&self, start: u64, end: u64) -> Gaps<'_, C>
         ensures { AreGaps self.now.ranges start end result }
     {

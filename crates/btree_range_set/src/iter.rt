@@ -70,7 +70,7 @@ impl<'a, C: NodesMut<u64, u64>> FusedIterator for Iter<'a, C> {}
 
 impl<C: NodesMut<u64, u64>> RangeSet<C> {
     /// Returns an iterator over the ranges, each as its start and its end, in ascending order and from both ends. They are the maximal runs
-    /// of the numbers of the set. A whole walk from the front fetches each node once. It allocates no memory.
+    /// of the numbers of the set. A whole walk from the front fetches each node once.
     pub fn iter(&self) -> Iter<'_, C>
         ensures ranges { result ≡ self.now.ranges }
         ensures runs { AreRuns self.now.ranges }

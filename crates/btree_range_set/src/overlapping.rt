@@ -67,7 +67,7 @@ impl<'a, C: NodesMut<u64, u64>> FusedIterator for Overlapping<'a, C> {}
 impl<C: NodesMut<u64, u64>> RangeSet<C> {
     /// Returns an iterator over the ranges that have a number from `start` up to `end`, which is not one of them, in ascending order and from
     /// both ends. The ranges are whole, also where they begin before `start` or end after `end`. There are none if `start` is at least `end`.
-    /// It searches twice, and allocates no memory.
+    /// It searches twice.
     pub fn overlapping(&self, start: u64, end: u64) -> Overlapping<'_, C>
         ensures ranges { result ≡ ranges_meeting start end self.now.ranges }
         ensures runs { AreRuns self.now.ranges }

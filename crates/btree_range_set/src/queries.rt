@@ -10,7 +10,7 @@ use btree_node::NodesMut;
 use std::iter::Iterator;
 
 impl<C: NodesMut<u64, u64>> RangeSet<C> {
-    /// Returns the range that a number is in, or `None`. It makes at most six comparisons at each level, and one more.
+    /// Returns the range that a number is in, or `None`.
     #[tactic(auto, using(crate::proofs::QueryLemmas::queries))]
     pub fn get(&self, number: u64) -> Option<(u64, u64)>
         ensures around { IfSome result (IsRangeAround self.now.ranges number) }
@@ -47,7 +47,7 @@ impl<C: NodesMut<u64, u64>> RangeSet<C> {
     }
 
     /// Returns whether a number from `start` up to `end`, which is not one of them, is in the set. There is none if `start` is at least `end`.
-    /// It searches twice, and allocates no memory.
+    /// It searches twice.
     #[tactic(auto, using(crate::specs::CallerLaws::range_laws))]
     pub fn overlaps(&self, start: u64, end: u64) -> bool
         ensures some { IsTrue result → Overlaps self.now.ranges start end }

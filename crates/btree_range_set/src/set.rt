@@ -14,9 +14,12 @@ use std::marker::Model;
 
 /// A set of numbers, kept as its maximal runs: half-open ranges in ascending order, none empty, no two of which touch. It may have any
 /// number but `u64::MAX`, since a range ends before its end.
+///
+/// A look-up of a number makes at most six comparisons at each level, and one more. Only a call that may add a range, and `clone`,
+/// allocates memory. A removal may add one, where it makes two of a range.
 #[derive(Drop)]
 pub struct RangeSet<C: NodesMut<u64, u64>> {
-    // From the start of each range to its end.
+    /// From the start of each range to its end.
     pub(crate) map: BTreeMap<u64, u64, C>,
 }
 
@@ -35,7 +38,7 @@ impl<C: NodesMut<u64, u64>> Model for RangeSet<C> {
 }
 
 impl<C: NodesMut<u64, u64>> RangeSet<C> {
-    /// Returns a set without numbers, over an empty store made from `origin`. It allocates no memory.
+    /// Returns a set without numbers, over an empty store made from `origin`.
     pub fn new(origin: C::Origin) -> Self
         ensures empty { result.ranges ≡ [] }
         ensures uncounted { result.kept ≡ unlimited 0 }
@@ -45,7 +48,7 @@ impl<C: NodesMut<u64, u64>> RangeSet<C> {
         }
     }
 
-    /// Returns a set without numbers that has at most `limit` ranges, over an empty store made from `origin`. It allocates no memory.
+    /// Returns a set without numbers that has at most `limit` ranges, over an empty store made from `origin`.
     pub fn with_limit(origin: C::Origin, limit: usize) -> Self
         ensures empty { result.ranges ≡ [] }
         ensures uncounted { result.kept ≡ limited_to limit }
@@ -55,8 +58,7 @@ impl<C: NodesMut<u64, u64>> RangeSet<C> {
         }
     }
 
-    /// Returns a set without numbers, over an empty store; the store's `len` tells whether it is empty. It keeps its count of refusals,
-    /// and allocates no memory.
+    /// Returns a set without numbers, over an empty store; the store's `len` tells whether it is empty. It keeps its count of refusals.
     pub fn in_store(nodes: C) -> Self
         requires { map.len (C.content nodes) ≡ 0 }
         ensures empty { result.ranges ≡ [] }
@@ -90,7 +92,7 @@ impl<C: NodesMut<u64, u64>> RangeSet<C> {
         self.map.store()
     }
 
-    /// Returns whether a number is in the set. It makes at most six comparisons at each level, and one more.
+    /// Returns whether a number is in the set.
     pub fn contains(&self, number: u64) -> bool
         ensures { result ≡ has_number self.now.ranges number }
     {

@@ -1,18 +1,20 @@
+-- Steps on nodes of a store, as the laws of trees see them. A file cites those before it. Main theorems: `is-split` and `fixed` in
+-- RebalanceLemmas, a node with an item too many or too few is rebalanced; `put-inserted` in PutLemmas, an item is put at exactly an address.
 pub mod Common
 pub mod ParentLemmas
 pub mod ClaimLemmas
+pub mod SeparatorLemmas
+pub mod OffsetLemmas
 pub mod UpwardLemmas
 pub mod AlikeLemmas
 pub mod CountLemmas
 pub mod OverflowLemmas
+pub mod StepLemmas
 pub mod BorrowLemmas
-pub mod SeparatorLemmas
 pub mod SingleNodeLemmas
 pub mod FixedLemmas
 pub mod NeedLemmas
-pub mod OffsetLemmas
 pub mod UnderflowLemmas
-pub mod StepLemmas
 pub mod SiblingLemmas
 pub mod StateLemmas
 pub mod RefuseLemmas

@@ -28,6 +28,7 @@ pub fn release<K: Drop, V: Drop, C: NodesMut<K, V>>(
     }
 }
 
+/// Returns a leaf without items and without a parent, as which a node is claimed.
 pub(crate) fn empty_leaf<K: Drop, V: Drop>() -> Node<K, V>
     ensures { result ≡ EMPTY }
 {
@@ -78,7 +79,7 @@ pub fn claim<K: Drop, V: Drop, C: NodesMut<K, V>>(
     true
 }
 
-// Takes the last claimed number.
+/// Takes the last claimed number.
 pub(crate) fn take_claim(claims: &mut ClaimedIds) -> usize
     requires { 0 < length claims.old.items }
     ensures { claims.old.items ≡ claims.new.items ++ result ∷ [] }

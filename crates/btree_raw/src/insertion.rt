@@ -6,7 +6,7 @@ ghost use Rattle.btree_raw.specs.Steps.{HasParent};
 ghost use Rattle.btree_raw.specs.Insertion.{InsertsExactly, IsFull, IsOffByOneWith, IsRefused, IsVacant};
 
 use crate::claims::{ClaimedIds, claim, claim_one};
-use crate::need::split_need_above;
+use crate::needs::split_need_above;
 use crate::node_changes::put;
 use crate::raw::RawBTree;
 use crate::rebalance::rebalance_fetched;
@@ -22,7 +22,6 @@ pub fn refused<K, V>(cause: Cause, item: Item<K, V>) -> Refused<K, V>
     Refused { cause, key, value }
 }
 
-// Inserts the only item of a tree without nodes.
 fn insert_only<K: Ord + Drop, V: Drop, C: NodesMut<K, V>>(
     tree: &mut RawBTree<K, V, C>,
     addr: Address,
@@ -49,7 +48,6 @@ fn insert_only<K: Ord + Drop, V: Drop, C: NodesMut<K, V>>(
     }
 }
 
-// Inserts an item into a full node, which has this parent and is split.
 #[inline(never)]
 fn insert_and_split<K: Ord + Drop, V: Drop, C: NodesMut<K, V>>(
     tree: &mut RawBTree<K, V, C>,
@@ -81,7 +79,6 @@ fn insert_and_split<K: Ord + Drop, V: Drop, C: NodesMut<K, V>>(
     Ok(at)
 }
 
-// Inserts an item into a node of a tree with a root.
 fn insert_in_tree<K: Ord + Drop, V: Drop, C: NodesMut<K, V>>(
     tree: &mut RawBTree<K, V, C>,
     addr: Address,

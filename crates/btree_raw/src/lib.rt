@@ -5,7 +5,7 @@ mod borrow;
 mod claims;
 mod insertion;
 mod moved;
-mod need;
+mod needs;
 mod node_changes;
 mod raw;
 mod rebalance;
@@ -16,7 +16,7 @@ mod underflow;
 
 pub use claims::{ClaimedIds, claim, claim_one, release};
 pub use insertion::refused;
-pub use need::{need, need_above, split_need};
+pub use needs::{need, need_above, split_need};
 pub use node_changes::{NotAdded, add_item_at_leaf, add_item_in_room, put};
 pub use raw::RawBTree;
 pub use rebalance::{rebalance_fetched, rebalance_underflow};

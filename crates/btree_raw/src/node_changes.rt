@@ -26,7 +26,7 @@ pub fn put<K: Drop, V: Drop, C: NodesMut<K, V>>(
     drop(mem::replace(tree.node_mut(id), node));
 }
 
-// Sets the parent of a node.
+/// Sets the parent of a node, which it fetches once.
 pub(crate) fn set_parent<K, V, C: NodesMut<K, V>>(
     tree: &mut RawBTree<K, V, C>,
     id: usize,
@@ -104,7 +104,7 @@ pub fn add_item_at_leaf<K: Drop, V: Drop, C: NodesMut<K, V>>(
     Ok(())
 }
 
-// What is left of the cut of a node: its parent, how many items it kept, the median, and the number of the node that has its right part.
+/// What is left of the cut of a node: its parent, how many items it kept, the median, and the number of the node that has its right part.
 #[derive(Drop)]
 pub(crate) struct Cut<K, V> {
     pub(crate) parent: Option<usize>,
@@ -133,7 +133,7 @@ fn place_part<K: Drop, V: Drop, C: NodesMut<K, V>>(
     right
 }
 
-// Cuts a node of the tree at its median, if it has an item too many. Its right part goes to the last claimed number.
+/// Cuts a node of the tree at its median, if it has an item too many. Its right part goes to the last claimed number.
 pub(crate) fn cut_node<K: Drop, V: Drop, C: NodesMut<K, V>>(
     tree: &mut RawBTree<K, V, C>,
     id: usize,
@@ -160,8 +160,8 @@ pub(crate) fn cut_node<K: Drop, V: Drop, C: NodesMut<K, V>>(
     })
 }
 
-// Inserts an item into a node at an index, and a child after it if one is given. Then it cuts the node as `cut_node` does. It fetches the
-// node once.
+/// Inserts an item into a node at an index, and a child after it if one is given. Then it cuts the node as `cut_node` does. It fetches the
+/// node once.
 pub(crate) fn add_and_cut<K: Drop, V: Drop, C: NodesMut<K, V>>(
     tree: &mut RawBTree<K, V, C>,
     id: usize,
@@ -193,8 +193,8 @@ pub(crate) fn add_and_cut<K: Drop, V: Drop, C: NodesMut<K, V>>(
     })
 }
 
-// Inserts a median and a new child into a node, after the child `id`. Then it cuts the node as `cut_node` does. Returns the index of `id`,
-// and what is left of the cut. It fetches the node once.
+/// Inserts a median and a new child into a node, after the child `id`. Then it cuts the node as `cut_node` does. Returns the index of `id`,
+/// and what is left of the cut. It fetches the node once.
 pub(crate) fn insert_separator<K: Drop, V: Drop, C: NodesMut<K, V>>(
     tree: &mut RawBTree<K, V, C>,
     above: usize,
@@ -231,7 +231,7 @@ pub(crate) fn insert_separator<K: Drop, V: Drop, C: NodesMut<K, V>>(
     )
 }
 
-// Sets the parent of all children of a node that is not in the tree.
+/// Sets the parent of all children of a node that is not in the tree.
 pub(crate) fn adopt<K, V, C: NodesMut<K, V>>(
     tree: &mut RawBTree<K, V, C>,
     node: &Node<K, V>,
@@ -247,7 +247,7 @@ pub(crate) fn adopt<K, V, C: NodesMut<K, V>>(
     }
 }
 
-// Sets the parent of all children of a node.
+/// Sets the parent of all children of a node.
 pub(crate) fn reparent_children<K, V, C: NodesMut<K, V>>(tree: &mut RawBTree<K, V, C>, id: usize)
     requires { CanReparent (node_map tree.old) id }
     ensures { Changes (λ a b. Reparents a b id (children_in (node_map tree.old id))) tree.old tree.new }

@@ -17,6 +17,8 @@ use std::marker::{Model, PhantomData};
 
 /// Nodes in a store, the number of a root, and a length. They need not form a tree: it may be in the middle of a change, or come from
 /// elsewhere. Contracts see it as a `TreeState`.
+///
+/// A call allocates memory only where it inserts a node into the store, or clones the store.
 #[derive(Drop)]
 pub struct RawBTree<K, V, C: NodesMut<K, V>> {
     store: C,
@@ -45,7 +47,7 @@ impl<K, V, C: NodesMut<K, V>> RawBTree<K, V, C> {
     ghost use Rattle.btree_raw.specs.Raw.{AreUsed, GainsNode, Refuses, with_node};
     ghost use Rattle.btree_raw.specs.Lent.{lends_node};
 
-    /// Returns a tree with no root, the length 0, and an empty store made from `origin`. It allocates no memory.
+    /// Returns a tree with no root, the length 0, and an empty store made from `origin`.
     ///
     /// The contract requires that a node fits in memory. The prover finds that by itself if the types of key and value are known.
     pub fn new(origin: C::Origin) -> Self
@@ -62,7 +64,7 @@ impl<K, V, C: NodesMut<K, V>> RawBTree<K, V, C> {
         }
     }
 
-    /// Returns a tree with no root and the length 0, over a store as it is. It allocates no memory.
+    /// Returns a tree with no root and the length 0, over a store as it is.
     ///
     /// The contract requires that a node fits in memory, as that of `new`.
     pub fn in_store(nodes: C) -> Self
@@ -89,7 +91,7 @@ impl<K, V, C: NodesMut<K, V>> RawBTree<K, V, C> {
         C::tell_fits();
     }
 
-    // Gives the prover the fact that the numbers in use are below `usize::MAX`. It does nothing at run time.
+    /// Gives the prover the fact that the numbers in use are below `usize::MAX`. It does nothing at run time.
     pub(crate) fn tell_numbers(&self)
         ensures { (id : ℕ) → IsUsed self.now id → id < usize.MAX }
     {
@@ -175,21 +177,21 @@ impl<K, V, C: NodesMut<K, V>> RawBTree<K, V, C> {
         self.root.is_none() && addr == Address::nowhere()
     }
 
-    /// Sets the length. Nothing else changes.
+    /// Sets the length, which need not be the number of items.
     pub fn set_len(&mut self, len: usize)
         ensures { self.new ≡ record self.old { len = len } }
     {
         self.len = len;
     }
 
-    /// Sets the greatest length. Nothing else changes.
+    /// Sets the greatest length. A length that is above it already stays.
     pub fn set_limit(&mut self, limit: usize)
         ensures { self.new ≡ record self.old { kept = record self.old.kept { limit = limit } } }
     {
         self.limit = limit;
     }
 
-    /// Sets the number of the root. Nothing else changes.
+    /// Sets the number of the root. There may be no node with this number.
     pub fn set_root_id(&mut self, id: Option<usize>)
         ensures { self.new ≡ record self.old { root = id } }
     {
@@ -209,7 +211,7 @@ impl<K, V, C: NodesMut<K, V>> RawBTree<K, V, C> {
         }
     }
 
-    /// Removes and returns the node with this number, which must be in use; see `has_node`. Nothing else changes.
+    /// Removes and returns the node with this number, which must be in use; see `has_node`. Its children keep it as their parent.
     pub fn release_node(&mut self, id: usize) -> Node<K, V>
         requires { IsUsed self.old id }
         ensures node { map.get self.old.nodes id ≡ Some result }
@@ -218,7 +220,7 @@ impl<K, V, C: NodesMut<K, V>> RawBTree<K, V, C> {
         self.store.remove(id)
     }
 
-    // Inserts a node into the store as it is.
+    /// Inserts a node into the store as it is.
     pub(crate) fn store_node(&mut self, node: Node<K, V>) -> Result<usize, Node<K, V>>
         ensures number { IfOk result (λ id. id < usize.MAX) }
         ensures unused { IfOk result (λ id. map.get self.old.nodes id ≡ None) }
@@ -259,7 +261,7 @@ impl<K: Ord, V, C: NodesMut<K, V>> RawBTree<K, V, C> {
     /// Returns whether the tree has a root and at most 32 levels, and is well formed except for its length and the number of items of node
     /// `id`: it may have one item too many or too few, and the root may also be empty. This is what `rebalance` requires of the tree.
     ///
-    /// It uses no memory but the stack. For each of the 32 heights that such a tree may have, it visits at most n + 1 of n nodes.
+    /// For each of the 32 heights that such a tree may have, it visits at most n + 1 of n nodes.
     pub fn is_off_by_one(&self, id: usize) -> bool
         ensures { IsTrue result ↔ IsOffByOneAt K.cmp self.now id }
     {
@@ -274,7 +276,7 @@ impl<K: Ord, V, C: NodesMut<K, V>> RawBTree<K, V, C> {
     /// first fault in preorder; that of the limit is asked last.
     ///
     /// The root is on level 1, and a node on level 33 is `TooDeep`; nothing below it is read. It reads each node of a well formed tree
-    /// once, copies nothing and uses no memory but the stack.
+    /// once, and copies nothing.
     pub fn validate(&self) -> Result<(), Fault>
         ensures exact { result ≡ Ok tt ↔ IsBTreeWithinLimit self.now K.cmp }
         ensures verdict { IsRawVerdict K.cmp self.now result }
@@ -287,7 +289,7 @@ impl<K: Ord, V, C: NodesMut<K, V>> RawBTree<K, V, C> {
     /// node, or the first fault in preorder. A node with neither separator is judged as the root, and a number that is not used is `NoNode`.
     /// At a node of a well formed tree it is a fault of the arguments.
     ///
-    /// The node is on level 1, and one on level 33 is `TooDeep`. It copies nothing and uses no memory but the stack.
+    /// The node is on level 1, and one on level 33 is `TooDeep`. It copies nothing.
     pub fn validate_node(
         &self,
         id: usize,
@@ -344,7 +346,6 @@ impl<K: Clone, V: Clone, C: CloneNodes<K, V>> RawBTree<K, V, C> {
     }
 }
 
-// Returns whether an address is in a node, from -1 to the number of its items.
 fn is_within<K, V, C: NodesMut<K, V>>(tree: &RawBTree<K, V, C>, addr: Address) -> bool
     ensures { IsTrue result ↔ IsWithinNode tree.now addr }
 {

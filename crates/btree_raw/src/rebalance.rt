@@ -5,7 +5,7 @@ ghost use Rattle.btree_raw.specs.Steps.{HasCount, HasParent, Overflows};
 ghost use Rattle.btree_raw.specs.Rebalance.{HasRoom, IsRebalanced, IsRefusal};
 
 use crate::claims::{ClaimedIds, claim};
-use crate::need::split_need;
+use crate::needs::split_need;
 use crate::raw::RawBTree;
 use crate::splits::split_upward;
 use crate::underflow::fix_underflow_upward;

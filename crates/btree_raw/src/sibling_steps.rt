@@ -21,7 +21,6 @@ use btree_item::{Item, LEAF_SLOTS, MIN_ITEMS, Offset};
 use btree_node::{Node, NodesMut};
 use btree_view::WouldUnderflow;
 
-// Removes and returns the first item of a node, with the first child of an internal node, if it has one to spare.
 fn take_first<K: Drop, V: Drop, C: NodesMut<K, V>>(
     tree: &mut RawBTree<K, V, C>,
     id: usize,
@@ -36,8 +35,6 @@ fn take_first<K: Drop, V: Drop, C: NodesMut<K, V>>(
     tree.node_mut(id).pop_left()
 }
 
-// Removes and returns the last item of a node, with the last child of an internal node, if it has one to spare. Returns first how many
-// items the node had.
 fn take_last<K: Drop, V: Drop, C: NodesMut<K, V>>(
     tree: &mut RawBTree<K, V, C>,
     id: usize,
@@ -56,7 +53,6 @@ fn take_last<K: Drop, V: Drop, C: NodesMut<K, V>>(
     }
 }
 
-// Replaces the item at an index of an internal node, and returns the old one.
 fn change_separator<K: Drop, V: Drop, C: NodesMut<K, V>>(
     tree: &mut RawBTree<K, V, C>,
     id: usize,
@@ -70,7 +66,6 @@ fn change_separator<K: Drop, V: Drop, C: NodesMut<K, V>>(
     tree.node_mut(id).replace(Offset::from(index), item)
 }
 
-// Inserts an item before the others of a node, and in an internal node a child before the others. Returns the child that was the first.
 fn put_first<K: Drop, V: Drop, C: NodesMut<K, V>>(
     tree: &mut RawBTree<K, V, C>,
     id: usize,
@@ -88,7 +83,6 @@ fn put_first<K: Drop, V: Drop, C: NodesMut<K, V>>(
     first
 }
 
-// Inserts an item after the others of a node, and in an internal node a child after the others.
 fn put_last<K: Drop, V: Drop, C: NodesMut<K, V>>(
     tree: &mut RawBTree<K, V, C>,
     id: usize,
@@ -149,7 +143,6 @@ fn take_node<K: Drop, V: Drop, C: NodesMut<K, V>>(
     drop(tree.release_node(id));
 }
 
-// Sets the parent of a child that has moved, if there is one.
 fn move_child<K, V, C: NodesMut<K, V>>(
     tree: &mut RawBTree<K, V, C>,
     child: Option<usize>,
@@ -165,7 +158,6 @@ fn move_child<K, V, C: NodesMut<K, V>>(
     }
 }
 
-// Clears the parent of a node. Returns how many items it has.
 fn clear_parent<K, V, C: NodesMut<K, V>>(tree: &mut RawBTree<K, V, C>, id: usize) -> usize
     requires { IsUsed tree.old id }
     ensures clears { Changes (λ a b. ClearsParent a b id) tree.old tree.new }

@@ -16,7 +16,6 @@ use crate::sibling_steps::shrink_root;
 use btree_item::{Address, LEAF_SLOTS, MIN_ITEMS};
 use btree_node::NodesMut;
 
-// Returns two adjacent children, if both are there.
 fn siblings_of(
     parent: usize,
     index: usize,

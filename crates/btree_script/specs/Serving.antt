@@ -7,7 +7,7 @@ use Rattle.btree_laws.specs.TreeState.{limited_to, rootless}
 use Rattle.btree_session.specs.Held.{Held}
 use Rattle.btree_session.specs.Script.{Drives}
 use Rattle.btree_session.specs.declared.options.Setup.{Setup}
-use Rattle.btree_session.specs.declared.drive.Stop.{Stop}
+use Rattle.btree_session.specs.declared.driver.Stop.{Stop}
 use Rattle.btree_script.specs.declared.Ending.{Ending}
 use Rattle.btree_script.specs.declared.Ending.TheVariants.{Stopped, WrongArguments}
 use Rattle.btree_script.specs.Ending.{status_after}

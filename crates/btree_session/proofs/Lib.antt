@@ -1,3 +1,5 @@
+-- The machine behind the program. A file cites those before it. Main theorems: Moves and Edits, the steps of a session; Lines and Serving, a text
+-- answered line by line.
 pub mod Common
 pub mod Runs
 pub mod Steps

@@ -9,8 +9,8 @@ use Rattle.std.specs.Io.Buffered.{reader_buffer, reader_capacity}
 use Rattle.std.specs.declared.io.buffered.BufReader.{BufReader}
 use Rattle.btree_session.specs.declared.line.Line.{Line}
 use Rattle.btree_session.specs.declared.line.Line.TheVariants.{Other}
-use Rattle.btree_session.specs.declared.drive.Stop.{Stop}
-use Rattle.btree_session.specs.declared.drive.Stop.TheVariants.{NotACommand, Memory, Input, Output}
+use Rattle.btree_session.specs.declared.driver.Stop.{Stop}
+use Rattle.btree_session.specs.declared.driver.Stop.TheVariants.{NotACommand, Memory, Input, Output}
 use Rattle.btree_session.specs.Line.{line_words}
 use Rattle.btree_session.specs.Script.{AreMostLines, DrivesBytes, HasNoLine, IfInput, MayStopAfter, input_of, is_newline, lines_of, MayStopAnywhere, Does, EndsAfter, ReadsLine, Serves, StopsAt, UnlessOutput}
 use Rattle.btree_session.proofs.Lines.{lines_of-cons, cut_at_newline}

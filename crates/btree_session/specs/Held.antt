@@ -5,6 +5,7 @@ use Rattle.btree_item.specs.Address.{Address}
 use Rattle.btree_node.specs.declared.node.Node.{Node}
 use Rattle.btree_laws.specs.TreeState.{TreeState, IsValidIn, tree_code}
 
+-- a map and the address that a session holds, if it holds one
 pub record Held (K V : Type 0) : Type 0 where
   pub map : TreeState K V
   pub held : Option Address

@@ -19,8 +19,8 @@ use Rattle.btree_session.specs.declared.command.Reply.{Reply}
 use Rattle.btree_session.specs.declared.line.Line.{Line}
 use Rattle.btree_session.specs.declared.line.Line.TheVariants.{Empty, Question, Other}
 use Rattle.btree_session.specs.declared.line.Line.TheVariants as line_kinds
-use Rattle.btree_session.specs.declared.drive.Stop.{Stop}
-use Rattle.btree_session.specs.declared.drive.Stop.TheVariants.{NotACommand, Memory, Input, Output}
+use Rattle.btree_session.specs.declared.driver.Stop.{Stop}
+use Rattle.btree_session.specs.declared.driver.Stop.TheVariants.{NotACommand, Memory, Input, Output}
 use Rattle.btree_session.specs.declared.text.TheConstants.{LONGEST_LINE}
 use Rattle.btree_session.specs.Answer.{IsAnswer, LacksRoomToAnswer}
 use Rattle.btree_session.specs.Held.{Held}

@@ -29,7 +29,7 @@ pub fn setup(words: &[&str]) -> Option<Setup>
     }
 }
 
-/// Returns the limit that the words ask for: `limit` and a number, or no words at all.
+// Returns the limit that the words ask for: `limit` and a number, or no words at all.
 fn limit_of(words: &[&str]) -> Option<usize>
     ensures { SomeIfAny (λ limit. AsksLimit limit (texts words.now)) result }
 {

@@ -71,7 +71,7 @@ fn remove<C: NodesMut<u64, u64>>(entries: &mut EntriesMut<'_, u64, u64, C>) -> R
     }
 }
 
-/// Takes one step. It allocates no memory except for nodes.
+// Takes one step. It allocates no memory except for nodes.
 fn take_step<C: NodesMut<u64, u64>>(
     entries: &mut EntriesMut<'_, u64, u64, C>,
     step: CursorStep,

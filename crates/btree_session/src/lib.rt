@@ -7,7 +7,7 @@
 mod arguments;
 mod command;
 mod cursor;
-mod drive;
+mod driver;
 mod line;
 mod options;
 mod question;
@@ -17,6 +17,6 @@ mod text;
 pub use arguments::setup;
 pub use command::{Command, Reply};
 pub use cursor::{CursorStep, run_cursor};
-pub use drive::{Stop, drive};
+pub use driver::{Stop, drive};
 pub use options::Setup;
 pub use session::{Session, SessionOver, run};

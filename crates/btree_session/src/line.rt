@@ -19,7 +19,7 @@ pub(crate) enum Line {
     Other,
 }
 
-/// The numbers after a name.
+// The numbers after a name.
 #[derive(Clone, Copy, Debug, PartialEq, Eq)]
 enum Numbers {
     Zero,
@@ -52,7 +52,7 @@ pub(crate) fn without_last(line: &[u8], byte: u8) -> &[u8]
     }
 }
 
-/// Returns the meaning of a name alone.
+// Returns the meaning of a name alone.
 fn named(name: &[u8]) -> Line
     ensures { Says name.now [] result }
 {
@@ -74,7 +74,6 @@ fn named(name: &[u8]) -> Line
     }
 }
 
-/// Returns the meaning of a name with a key.
 fn named_with_key(name: &[u8], key: u64) -> Line
     ensures { Says name.now (key ∷ []) result }
 {
@@ -90,7 +89,6 @@ fn named_with_key(name: &[u8], key: u64) -> Line
     Line::Other
 }
 
-/// Returns the meaning of a name with a key and a value.
 fn named_with_pair(name: &[u8], key: u64, value: u64) -> Line
     ensures { Says name.now (key ∷ value ∷ []) result }
 {
@@ -103,7 +101,6 @@ fn named_with_pair(name: &[u8], key: u64, value: u64) -> Line
     Line::Other
 }
 
-/// Returns the question with a name.
 fn question_named(name: &[u8]) -> Option<Question>
     ensures { SomeIfAny (λ asked. name.now ≡ name_of asked) result }
 {
@@ -122,7 +119,7 @@ fn question_named(name: &[u8]) -> Option<Question>
     None
 }
 
-/// Returns the numbers, if the text consists of at most two numbers.
+// Returns the numbers, if the text consists of at most two numbers.
 fn read_numbers(text: &[u8]) -> Option<Numbers>
     ensures { SomeIfAny (λ ns. AreNumbers (number_list ns) (words_of text.now)) result }
 {
@@ -140,7 +137,7 @@ fn read_numbers(text: &[u8]) -> Option<Numbers>
     Some(Numbers::Two(first, second))
 }
 
-/// Returns the first word and the text after it, if there is a word.
+// Returns the first word and the text after it, if there is a word.
 fn next_word(text: &[u8]) -> Option<(&[u8], &[u8])>
     ensures none { IfNone result (words_of text.now ≡ []) }
     ensures some { IfSome result

@@ -14,7 +14,7 @@ use std::alloc::{AllocError, Allocator};
 use std::marker::Model;
 
 /// A map from `K` to `V` that commands are run on. It holds at most one address of the map. The commands are for a [`Session`], where
-/// both are `u64`.
+/// both are `u64`. Its calls allocate memory for nodes only.
 #[derive(Drop)]
 pub struct SessionOver<K: Ord, V, C: NodesMut<K, V>> {
     map: BTreeMap<K, V, C>,
@@ -38,7 +38,7 @@ impl<K: Ord, V, C: NodesMut<K, V>> Model for SessionOver<K, V, C> {
 pub type Session<C> = SessionOver<u64, u64, C>;
 
 impl<C: NodesMut<u64, u64>> Session<C> {
-    /// Returns a session over an empty map, with a store made from `origin`. It holds no address, and allocates no memory.
+    /// Returns a session over an empty map, with a store made from `origin`. It holds no address.
     pub fn new(origin: C::Origin) -> Self
         ensures empty { pairs_of result.map ≡ [] }
         ensures state { result.map ≡ rootless map.empty (unlimited 0) }
@@ -50,8 +50,7 @@ impl<C: NodesMut<u64, u64>> Session<C> {
         }
     }
 
-    /// Returns a session over an empty map that has at most `limit` pairs, with a store made from `origin`. It holds no address, and
-    /// allocates no memory.
+    /// Returns a session over an empty map that has at most `limit` pairs, with a store made from `origin`. It holds no address.
     pub fn with_limit(origin: C::Origin, limit: usize) -> Self
         ensures empty { pairs_of result.map ≡ [] }
         ensures state { result.map ≡ rootless map.empty (limited_to limit) }
@@ -63,8 +62,8 @@ impl<C: NodesMut<u64, u64>> Session<C> {
         }
     }
 
-    /// Returns a session over an empty map in an empty store; the store's `len` tells whether it is empty. It holds no address, keeps
-    /// the store's count of refusals, and allocates no memory.
+    /// Returns a session over an empty map in an empty store; the store's `len` tells whether it is empty. It holds no address, and
+    /// keeps the store's count of refusals.
     pub fn in_store(nodes: C) -> Self
         requires { map.len (C.content nodes) ≡ 0 }
         ensures empty { pairs_of result.map ≡ [] }
@@ -212,7 +211,7 @@ impl<C: NodesMut<u64, u64>> Session<C> {
 }
 
 impl<C: ClearNodes<u64, u64>> Session<C> {
-    /// Runs one command. It allocates no memory except for nodes.
+    /// Runs one command.
     pub(crate) fn execute(&mut self, command: Command) -> Reply
         ensures { IsStep C.MayRefuse self.old command result self.new }
     {
@@ -240,7 +239,6 @@ impl<C: ClearNodes<u64, u64>> Session<C> {
     }
 }
 
-/// Returns the pair at an address with an item.
 fn pair_at<C: NodesMut<u64, u64>>(map: &BTreeMap<u64, u64, C>, addr: &Address) -> (u64, u64)
     requires { IsOccupiedIn map.now addr.now }
     ensures { Some result ≡ item_of map.now addr.now }

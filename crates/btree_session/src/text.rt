@@ -10,7 +10,7 @@ use std::alloc::AllocError;
 /// The most bytes of a reply's line.
 pub(crate) const LONGEST_LINE: usize = 47;
 
-/// The most digits of a number.
+// The most digits of a number.
 const LONGEST_NUMBER: usize = 20;
 
 /// Appends a reply to the text, on a line of its own, in room that is there.

@@ -3,7 +3,7 @@ pub use Rattle.std.proofs.Common.{◌≡◌, ◌∙◌, true, false, List, [], �
 pub use Rattle.std.specs.Cmp.{IsTotalOrder}
 pub use Rattle.std.specs.Fn.{CalledAt, TakesAt}
 pub use Rattle.std.specs.List.{filter}
-pub use Rattle.std.specs.List.Sorted.{IsStrictlySortedBy}
+unfoldable pub use Rattle.std.specs.List.Sorted.{IsStrictlySortedBy}
 pub use Rattle.std.specs.Map.{keys_of}
 pub use Rattle.std.specs.Ordering.{is_eq}
 pub use Rattle.std.specs.declared.cmp.Ordering.{Ordering}

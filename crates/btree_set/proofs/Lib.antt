@@ -1,3 +1,5 @@
+-- Sets, as maps without values. A file cites those before it. Main theorems: MergeLaws, a merge of two ascending lists ascends, and has the
+-- elements that its name says.
 pub mod Common
 pub mod KeyLemmas
 pub mod MergeLemmas

@@ -20,6 +20,7 @@ use Rattle.btree_ext.specs.Insert.{IsRefusedAtGap}
 use Rattle.btree_map.specs.Lists.{last_place}
 use Rattle.btree_map.specs.Removal.{RemovesPlace}
 
+-- a set as contracts see it: its elements in order, its limit and its count of refusals, and its tree
 pub record SetState (T : Type 0) : Type 0 where
   pub elements : List T
   pub kept : Kept

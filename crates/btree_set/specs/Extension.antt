@@ -54,6 +54,7 @@ module _ {T : Type 0} (cmp : T → T → Ordering) where
     abbrev pub Collects : (source rest : S) → (new : SetState T) → Type 0
     Collects source rest new = Extends steps [] source None new.elements rest
 
+    -- the elements before a refused one were inserted into a set that began without elements
     abbrev pub CollectsUntil : (source rest : S) → SetState T × Refused T (Unit {0}) → Type 0
     CollectsUntil source rest stopped = Extends steps [] source (Some stopped.1.key) stopped.0.elements rest
 

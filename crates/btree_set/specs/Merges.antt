@@ -38,14 +38,18 @@ count_of merge left = item_count (λ lists. merge lists.0 lists.1) left
 abbrev pub checked_sum : (n m : ℕ) → Option ℕ
 checked_sum n m = if nat_lt (n + m) (2 ^ 64) then Some (n + m) else None
 
+-- how many elements each merge of n and m elements yields, at least and at most; for a union, at most n + m if that is a `usize`
 abbrev pub union_hint : (n m : ℕ) → ℕ × Option ℕ
 union_hint n m = (max n m, checked_sum n m)
 
+-- at most as many as the shorter list has
 abbrev pub intersection_hint : (n m : ℕ) → ℕ × Option ℕ
 intersection_hint n m = (0, Some (min n m))
 
+-- at least what is left if all m are taken away
 abbrev pub difference_hint : (n m : ℕ) → ℕ × Option ℕ
 difference_hint n m = (n - m, Some n)
 
+-- none, if the lists are the same
 abbrev pub symmetric_difference_hint : (n m : ℕ) → ℕ × Option ℕ
 symmetric_difference_hint n m = (0, checked_sum n m)

@@ -14,15 +14,14 @@ use std::hash::{Hash, Hasher};
 
 impl<T: Ord, C: NodesMut<T, ()>> BTreeSet<T, C> {
     /// Returns whether two sets, which may have different stores, have equal elements. It compares each element once, up to the first that
-    /// differs, and allocates no memory.
+    /// differs.
     pub fn same_items<D: NodesMut<T, ()>>(&self, other: &BTreeSet<T, D>) -> bool
         ensures { result ≡ pointwise T.eq self.now.elements other.now.elements }
     {
         self.map.same_items(&other.map)
     }
 
-    /// Compares the elements of two sets, which may have different stores, lexicographically. It stops at the first element that differs,
-    /// and allocates no memory.
+    /// Compares the elements of two sets, which may have different stores, lexicographically. It stops at the first element that differs.
     pub fn compare_items<D: NodesMut<T, ()>>(&self, other: &BTreeSet<T, D>) -> Ordering
         ensures { result ≡ slice_cmp T.cmp self.now.elements other.now.elements }
     {

@@ -17,7 +17,7 @@ use steps::run_rest;
 /// A `for` loop cannot take it, since its drop requires that the closure may be called: write `while let Some(element) = drain.next()`.
 pub struct DrainFilter<'a, T: Ord, C: NodesMut<T, ()>, F: FnMut(&T) -> bool> {
     pub(crate) set: &'a mut BTreeSet<T, C>,
-    // The address of the element at place `front`: so many were kept.
+    /// The address of the element at place `front`: so many were kept.
     pub(crate) first: Option<Address>,
     pub(crate) front: usize,
     pub(crate) test: ByKey<F>,

@@ -73,8 +73,7 @@ impl<'a, T: Ord, C: NodesMut<T, ()>> DoubleEndedIterator for Range<'a, T, C> {
 impl<'a, T: Ord, C: NodesMut<T, ()>> FusedIterator for Range<'a, T, C> {}
 
 impl<T: Ord, C: NodesMut<T, ()>> BTreeSet<T, C> {
-    /// Returns an iterator over the elements in order, from both ends. A whole walk from the front fetches each node once. It allocates
-    /// no memory.
+    /// Returns an iterator over the elements in order, from both ends. A whole walk from the front fetches each node once.
     pub fn iter(&self) -> Iter<'_, T, C>
         ensures { result ≡ self.now.elements }
     {

@@ -124,7 +124,8 @@ impl<T: Ord + Drop, C: NodesMut<T, ()>> BTreeSet<T, C> {
     }
 
     /// Returns a set of the elements that `source` gives, over an empty store made from `origin`. It inserts them by `extend`, so of equal
-    /// elements the first one stays. Returns the first element that is refused, with the set of those before it; those after it are still in `source`.
+    /// elements the first one stays. Returns the first element that is refused, with the set of those before it; those after it are still in
+    /// `source`.
     ///
     /// The contract requires that `source` ends, and that a node fits in memory, as `new` does.
     pub fn from_iter<I: Iterator<Item = T>>(

@@ -1,4 +1,5 @@
-//! What two sets, which may have different stores, have in common. It is seen by contracts as the elements that are left in the first set and in the second.
+//! What two sets, which may have different stores, have in common. It is seen by contracts as the elements that are left in the first set
+//! and in the second.
 ghost use Rattle.std.specs.Prelude.{◌≡◌, IfSome, length};
 ghost use Rattle.std.specs.Iterator.SizeHint.{IsWithinCount};
 ghost use Rattle.std.specs.Iterator.{YieldsFirstRef, item_count, UpTo};

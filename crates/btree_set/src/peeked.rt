@@ -31,7 +31,7 @@ impl<'a, T: Ord, C: NodesMut<T, ()>> Model for Peeked<'a, T, C> {
 }
 
 impl<'a, T: Ord, C: NodesMut<T, ()>> Peeked<'a, T, C> {
-    // Returns the elements of an iterator, which ascend.
+    /// Returns the elements of an iterator, which ascend.
     pub fn new(rest: Keys<'a, T, (), C>) -> Self
         requires ascends { IsStrictlySortedBy T.cmp rest }
         ensures { result ≡ rest.entry }
@@ -43,7 +43,7 @@ impl<'a, T: Ord, C: NodesMut<T, ()>> Peeked<'a, T, C> {
         Peeked { head, rest }
     }
 
-    // Returns the next element.
+    /// Returns the next element.
     #[inline]
     pub fn head(&self) -> Option<&'a T>
         ensures next { option_copied result ≡ slice_get self.now 0 }
@@ -52,7 +52,7 @@ impl<'a, T: Ord, C: NodesMut<T, ()>> Peeked<'a, T, C> {
         self.head
     }
 
-    // Goes on to the next element.
+    /// Goes on to the next element.
     #[inline]
     pub fn advance(&mut self)
         ensures { self.new ≡ drop 1 self.old }
@@ -60,7 +60,7 @@ impl<'a, T: Ord, C: NodesMut<T, ()>> Peeked<'a, T, C> {
         self.head = self.rest.next();
     }
 
-    // Returns the next element, and goes on after it.
+    /// Returns the next element, and goes on after it.
     #[inline]
     pub fn next(&mut self) -> Option<&'a T>
         ensures first { option_copied result ≡ slice_get self.old 0 }
@@ -71,7 +71,7 @@ impl<'a, T: Ord, C: NodesMut<T, ()>> Peeked<'a, T, C> {
         head
     }
 
-    // Returns how many elements are left.
+    /// Returns how many elements are left.
     pub fn len(&self) -> usize
         ensures count { result ≡ length self.now }
         ensures ascends { IsStrictlySortedBy T.cmp self.now }

@@ -22,6 +22,9 @@ use std::marker::Model;
 use std::ops::RangeBounds;
 
 /// An ordered set: a map without values. Contracts see its elements in order.
+///
+/// A search by an element or another query makes at most six comparisons at each level. The removal of an element frees at most as many
+/// nodes as the tree has levels, and cannot fail. Only a call that may add an element, and `clone`, allocates memory.
 #[derive(Drop)]
 pub struct BTreeSet<T: Ord, C: NodesMut<T, ()>> {
     pub(crate) map: BTreeMap<T, (), C>,
@@ -39,7 +42,7 @@ impl<T: Ord, C: NodesMut<T, ()>> Model for BTreeSet<T, C> {
 }
 
 impl<T: Ord, C: NodesMut<T, ()>> BTreeSet<T, C> {
-    /// Returns a set without elements, over an empty store made from `origin`. It allocates no memory.
+    /// Returns a set without elements, over an empty store made from `origin`.
     ///
     /// The contract requires that a node fits in memory. The prover finds that by itself if the type of the elements is known.
     pub fn new(origin: C::Origin) -> Self
@@ -52,8 +55,8 @@ impl<T: Ord, C: NodesMut<T, ()>> BTreeSet<T, C> {
         }
     }
 
-    /// Returns a set without elements that has at most `limit`, over an empty store made from `origin`. It allocates no memory. With the
-    /// limit 0 every new element is refused.
+    /// Returns a set without elements that has at most `limit`, over an empty store made from `origin`. With the limit 0 every new
+    /// element is refused.
     ///
     /// The contract requires that a node fits in memory, as that of `new`.
     pub fn with_limit(origin: C::Origin, limit: usize) -> Self
@@ -66,8 +69,7 @@ impl<T: Ord, C: NodesMut<T, ()>> BTreeSet<T, C> {
         }
     }
 
-    /// Returns a set without elements, over an empty store; the store's `len` tells whether it is empty. It keeps its count of refusals,
-    /// and allocates no memory.
+    /// Returns a set without elements, over an empty store; the store's `len` tells whether it is empty. It keeps its count of refusals.
     ///
     /// The contract requires that a node fits in memory, as that of `new`.
     pub fn in_store(nodes: C) -> Self
@@ -121,14 +123,14 @@ impl<T: Ord, C: NodesMut<T, ()>> BTreeSet<T, C> {
         self.map.store()
     }
 
-    /// Returns whether an element is equal to the given one. It makes at most six comparisons at each level.
+    /// Returns whether an element is equal to the given one.
     pub fn contains(&self, element: &T) -> bool
         ensures { IsTrue result ↔ IsSome (stored T.cmp element.now self.now.elements) }
     {
         self.map.contains_key(element)
     }
 
-    /// Returns the stored element that is equal to the given one, or `None`. It makes at most six comparisons at each level.
+    /// Returns the stored element that is equal to the given one, or `None`.
     pub fn get(&self, element: &T) -> Option<&T>
         ensures { option_copied result ≡ stored T.cmp element.now self.now.elements }
     {
@@ -214,7 +216,7 @@ impl<T: Ord + Drop, C: NodesMut<T, ()>> BTreeSet<T, C> {
         }
     }
 
-    /// Removes the element that is equal to the given one. Returns whether there was one. It searches once and cannot fail.
+    /// Removes the element that is equal to the given one. Returns whether there was one. It searches once.
     pub fn remove(&mut self, element: &T) -> bool
         ensures there { IsTrue result ↔ IsSome (stored T.cmp element.now self.old.elements) }
         ensures removed { self.new.elements ≡ removed T.cmp element.now self.old.elements }
@@ -234,7 +236,7 @@ impl<T: Ord + Drop, C: NodesMut<T, ()>> BTreeSet<T, C> {
         first_of(self.map.remove_entry(element))
     }
 
-    /// Removes the element that a query is equal to. Returns whether there was one. It searches once and cannot fail.
+    /// Removes the element that a query is equal to. Returns whether there was one. It searches once.
     pub fn remove_by<Q: Query<T>>(&mut self, query: &Q) -> bool
         ensures there { IsTrue result ↔ IsSome (stored Q.compare query.now self.old.elements) }
         ensures removed { self.new.elements ≡ removed Q.compare query.now self.old.elements }
@@ -297,7 +299,7 @@ impl<T: Ord, C: ClearNodes<T, ()>> BTreeSet<T, C> {
     }
 }
 
-// Returns the element of a pair without a value.
+/// Returns the element of a pair without a value.
 pub(crate) fn first_of<T>(pair: Option<(T, ())>) -> Option<T>
     ensures { result ≡ option_map (λ p. p.0) pair }
 {

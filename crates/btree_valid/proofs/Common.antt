@@ -30,7 +30,8 @@ pub use Rattle.btree_valid.specs.Faults.{AreBetween, Allows}
 pub use Rattle.btree_valid.specs.OffByOne.{CanOrder, CanPassUnder, Orders, PassesUnder, IsOffByOneWithHeight}
 pub use Rattle.btree_valid.specs.Positions.{IsFirstLeaf, IsLeafDepth, IsMetBelow, PassesAt, Spotted, root_spot, step_down, nearest_of, Leads}
 pub use Rattle.btree_valid.specs.Spots.{Suits, BeginsAt, CanMeet, MeetsAt, BlamesAt, FindsAt, least_between}
-pub use Rattle.btree_valid.specs.Verdicts.{numbers_met, NamesTree}
+unfoldable pub use Rattle.btree_valid.specs.Verdicts.{numbers_met}
+pub use Rattle.btree_valid.specs.Verdicts.{NamesTree}
 pub use Rattle.btree_valid.specs.declared.faults.Met.{Met}
 pub use Rattle.btree_valid.specs.declared.faults.Spot.{Spot}
 pub use Rattle.btree_view.specs.Checks.{FirstFailed, IsNodeVerdict, node_faults, is_judged_as_root, PassesCheck}

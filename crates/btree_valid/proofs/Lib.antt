@@ -1,3 +1,5 @@
+-- The validator. A file cites those before it. Main theorems: `all-found` in TreeLemmas, no fault means a well formed tree; NameLemmas, the fault
+-- that is answered is the first one; `readable` in ReadLaws, what a reader may rest on where no check fails.
 pub mod Common
 pub mod OrderLemmas
 pub mod PassLemmas
@@ -11,8 +13,8 @@ pub mod BlameLemmas
 pub mod WholeLemmas
 pub mod FoundLemmas
 pub mod ExactLemmas
-pub mod TreeLemmas
 pub mod OnceLemmas
+pub mod TreeLemmas
 pub mod OffByOneLemmas
 pub mod PartNames
 pub mod NameLemmas

@@ -46,7 +46,6 @@ fn fewer(left: Option<usize>, count: usize) -> Option<usize>
     }
 }
 
-// Returns the nearer separator, if there is one, and else the farther.
 fn nearest<'a, K>(near: Option<&'a K>, far: Option<&'a K>) -> Option<&'a K>
     ensures { option_copied result ≡ nearest_of (option_copied near.entry) (option_copied far.entry) }
 {
@@ -56,7 +55,6 @@ fn nearest<'a, K>(near: Option<&'a K>, far: Option<&'a K>) -> Option<&'a K>
     }
 }
 
-// Counts a node and its items.
 fn count_node(met: Met, items: usize) -> Met
     ensures leaves { result.leaf_level ≡ met.leaf_level }
     ensures items { IsFewer met.items items result.items }
@@ -91,7 +89,6 @@ fn meet_leaf(met: Met, level: usize) -> Result<Met, Fault>
     }
 }
 
-// Returns the spot of a child: one level lower, under this node, and between the nearest separators.
 fn below<'a, K, V>(
     node: &'a Node<K, V>,
     spot: &Spot<'a, K>,
@@ -183,8 +180,7 @@ fn check_root<K: Ord, V, C: Nodes<K, V>>(
 /// Checks that the nodes are exactly one well formed tree under the root, with this length, which is not above its limit. Returns the first
 /// fault in preorder; that of the limit is asked last.
 ///
-/// The root is on level 1, and a node on level 33 is `TooDeep`; nothing below it is read. It copies nothing and uses no memory but the
-/// stack.
+/// The root is on level 1, and a node on level 33 is `TooDeep`; nothing below it is read.
 pub fn validate<K: Ord, V, C: Nodes<K, V>>(
     nodes: &C,
     root: Option<usize>,
@@ -214,7 +210,7 @@ pub fn validate<K: Ord, V, C: Nodes<K, V>>(
 /// node, or the first fault in preorder. A node with neither separator is judged as the root. In a well formed tree it is a fault of the
 /// arguments.
 ///
-/// The node is on level 1, and one on level 33 is `TooDeep`. It copies nothing and uses no memory but the stack.
+/// The node is on level 1, and one on level 33 is `TooDeep`.
 pub fn validate_node<K: Ord, V, C: Nodes<K, V>>(
     nodes: &C,
     id: usize,

@@ -1,4 +1,4 @@
-//! Decides whether nodes of any content form a tree, by walks that allocate no memory.
+//! Decides whether nodes of any content form a tree, by walks that copy nothing and use no memory but the stack.
 #![tactic(auto, using(btree_store::specs::ContentLaws::stores))]
 
 mod faults;

@@ -27,7 +27,6 @@ struct Part {
     id: usize,
 }
 
-// Returns whether a key is above the last one passed.
 fn is_above<K: Ord>(last: Option<&K>, key: &K) -> bool
     ensures { IsTrue result ↔ IsAbove K.cmp (option_copied last.entry) key.now }
 {
@@ -57,7 +56,6 @@ fn excess(exempt: usize, id: usize) -> usize
     0
 }
 
-// Returns the most items of a node; node `exempt` may have one too many.
 fn most_items<K, V>(node: &Node<K, V>, exempt: usize, id: usize) -> usize
     ensures { result ≡ most_of (view_of node.now) + excess_allowed exempt id }
 {
@@ -118,7 +116,6 @@ fn pass_items<'a, K: Ord, V>(node: &'a Node<K, V>, seen: Walk<'a, K>) -> Option<
     })
 }
 
-// Passes a key, or returns `None` if it is not above the last one.
 fn pass_key<'a, K: Ord>(seen: Walk<'a, K>, key: &'a K) -> Option<Walk<'a, K>>
     ensures only { IfSome result (PassesKey K.cmp key.now seen.entry) }
     ensures always { IsAbove K.cmp (option_copied seen.entry.last) key.now → IsSome result }
@@ -132,7 +129,6 @@ fn pass_key<'a, K: Ord>(seen: Walk<'a, K>, key: &'a K) -> Option<Walk<'a, K>>
     })
 }
 
-// Returns what is expected of the subtree at a child of the root of this one.
 fn child_part(part: Part, child: usize) -> Part
     requires { 0 < part.height }
     ensures height { result.height ≡ part.height - 1 }
@@ -211,7 +207,6 @@ fn is_off_by_one_at_height<K: Ord, V, C: Nodes<K, V>>(
     }
 }
 
-// Returns whether the tree is off by one at node `exempt`, at one of the heights that such a tree may have.
 fn is_off_by_one_at_some_height<K: Ord, V, C: Nodes<K, V>>(
     nodes: &C,
     root: usize,
@@ -231,7 +226,7 @@ fn is_off_by_one_at_some_height<K: Ord, V, C: Nodes<K, V>>(
 /// Returns whether the nodes form a tree of at most 32 levels under a root, well formed except for its length and the number of items of
 /// node `exempt`. That node is there, and may have one item too many or too few; the root may also be empty.
 ///
-/// It uses no memory but the stack. For each of the 32 heights that such a tree may have, it visits at most n + 1 of n nodes.
+/// For each of the 32 heights that such a tree may have, it visits at most n + 1 of n nodes.
 pub fn is_off_by_one<K: Ord, V, C: Nodes<K, V>>(nodes: &C, root: usize, exempt: usize) -> bool
     requires { FitsInMemory (node_row K.row V.row) }
     ensures { IsTrue result ↔ IsOffByOneAmong K.cmp (C.content nodes.now) root exempt }

@@ -36,6 +36,7 @@ impl<'a, K, V> Model for Ancestors<'a, K, V> {
 }
 
 impl<'a, K, V> Ancestors<'a, K, V> {
+    /// Returns an empty list.
     pub fn new() -> Self
         ensures { result ≡ [] }
     {
@@ -92,7 +93,7 @@ impl<'a, K, V> Ancestors<'a, K, V> {
     }
 }
 
-// Returns the first item of a leaf after those that are passed.
+/// Returns the first item of a leaf after those that are passed.
 #[inline]
 pub(crate) fn next_in_leaf<'a, K, V>(
     leaf: Option<&'a LeafNode<K, V>>,
@@ -139,7 +140,7 @@ fn descend<'a, K: Ord + 'a, V: 'a, C: NodesMut<K, V> + 'a>(
     }
 }
 
-// Returns the first leaf of a tree, and puts the internal nodes above it into the empty list of ancestors.
+/// Returns the first leaf of a tree, and puts the internal nodes above it into the empty list of ancestors.
 pub(crate) fn start<'a, K: Ord + 'a, V: 'a, C: NodesMut<K, V> + 'a>(
     tree: &'a Tree<K, V, C>,
     ancestors: &mut Ancestors<'a, K, V>,
@@ -157,7 +158,7 @@ pub(crate) fn start<'a, K: Ord + 'a, V: 'a, C: NodesMut<K, V> + 'a>(
     }
 }
 
-// Returns the next item of the ancestors, and the first leaf after it.
+/// Returns the next item of the ancestors, and the first leaf after it.
 pub(crate) fn next_above<'a, K: Ord + 'a, V: 'a, C: NodesMut<K, V> + 'a>(
     tree: &'a Tree<K, V, C>,
     ancestors: &mut Ancestors<'a, K, V>,

@@ -1,4 +1,4 @@
-//! Where a walk is that starts at a key.
+//! Where a walk is that starts at a key. It makes at most six comparisons in each node on the way.
 ghost use Rattle.std.specs.Prelude.{◌≡◌, ◌≤◌, []};
 ghost use Rattle.std.specs.declared.ops.Bound.TheVariants.{Included};
 ghost use Rattle.btree_item.specs.Pairs.{Ascends};
@@ -14,7 +14,7 @@ use btree_ext::{BTreeExt, Tree};
 use btree_node::{LeafNode, Node, NodesMut};
 
 // Returns how many items of a node have keys below `key`, and the child after them, or `None` if the key is in the node or the node is a
-// leaf. It makes at most six comparisons.
+// leaf.
 #[inline]
 fn items_below<K: Ord, V>(node: &Node<K, V>, key: &K) -> (usize, Option<usize>)
     requires { Ascends K.cmp (items_of (view_of node.now)) }
@@ -26,8 +26,8 @@ fn items_below<K: Ord, V>(node: &Node<K, V>, key: &K) -> (usize, Option<usize>)
     }
 }
 
-// Returns where a forward walk is that has passed the items with keys below `key`: a leaf and how many of its items are passed. It puts
-// the internal nodes above into the empty list of ancestors.
+/// Starts a forward walk behind the items with keys below `key`. Returns the leaf there, and how many of its items are passed. The internal
+/// nodes above it go into the empty list of ancestors.
 pub(crate) fn start_from<'a, K: Ord + 'a, V: 'a, C: NodesMut<K, V> + 'a>(
     tree: &'a Tree<K, V, C>,
     key: &K,
@@ -61,7 +61,7 @@ pub(crate) fn start_from<'a, K: Ord + 'a, V: 'a, C: NodesMut<K, V> + 'a>(
 }
 
 // Returns how many items of a node have keys up to `key`, and the child after them, or `None` if the key is in the node or the node is a
-// leaf. It makes at most six comparisons.
+// leaf.
 #[inline]
 fn items_up_to<K: Ord, V>(node: &Node<K, V>, key: &K) -> (usize, Option<usize>)
     requires { Ascends K.cmp (items_of (view_of node.now)) }
@@ -74,8 +74,8 @@ fn items_up_to<K: Ord, V>(node: &Node<K, V>, key: &K) -> (usize, Option<usize>)
     }
 }
 
-// Returns where a backward walk is that has passed the items with keys above `key`: a leaf and how many of its items are not passed. It puts
-// the internal nodes above into the empty list of ancestors.
+/// Starts a backward walk before the items with keys above `key`. Returns the leaf there, and how many of its items are left. The internal
+/// nodes above it go into the empty list of ancestors.
 pub(crate) fn end_at<'a, K: Ord + 'a, V: 'a, C: NodesMut<K, V> + 'a>(
     tree: &'a Tree<K, V, C>,
     key: &K,

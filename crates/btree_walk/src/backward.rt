@@ -13,7 +13,7 @@ use btree_ext::{BTreeExt, Tree};
 use btree_item::{Item, LEAF_SLOTS, SlotsIter};
 use btree_node::{LeafNode, Node, NodesMut};
 
-// Returns the first `kept` items of a leaf, to be passed from the last one back.
+/// Returns the first `kept` items of a leaf, to be passed from the last one back.
 #[inline]
 pub(crate) fn run_to<'a, K, V>(
     leaf: Option<&'a LeafNode<K, V>>,
@@ -32,7 +32,7 @@ pub(crate) fn run_to<'a, K, V>(
     Some(run)
 }
 
-// Passes the last item of a run and returns it.
+/// Passes the last item of a run and returns it.
 #[inline]
 pub(crate) fn last_in_run<'a, K, V>(
     run: &mut Option<SlotsIter<'a, Item<K, V>>>,
@@ -97,7 +97,7 @@ fn descend_last<'a, K: Ord + 'a, V: 'a, C: NodesMut<K, V> + 'a>(
     }
 }
 
-// Returns the last leaf of a tree and how many items it has, and puts the internal nodes above it into the empty list of ancestors.
+/// Returns the last leaf of a tree and how many items it has, and puts the internal nodes above it into the empty list of ancestors.
 pub(crate) fn end<'a, K: Ord + 'a, V: 'a, C: NodesMut<K, V> + 'a>(
     tree: &'a Tree<K, V, C>,
     ancestors: &mut Ancestors<'a, K, V>,
@@ -120,8 +120,8 @@ pub(crate) fn end<'a, K: Ord + 'a, V: 'a, C: NodesMut<K, V> + 'a>(
     (Some(leaf), kept)
 }
 
-// Returns the previous item of the ancestors, and the last leaf before it with the number of its items. It may fetch the leaves before that
-// one too.
+/// Returns the previous item of the ancestors, and the last leaf before it with the number of its items. It may fetch the leaves before that
+/// one too.
 pub(crate) fn previous_above<'a, K: Ord + 'a, V: 'a, C: NodesMut<K, V> + 'a>(
     tree: &'a Tree<K, V, C>,
     ancestors: &mut Ancestors<'a, K, V>,

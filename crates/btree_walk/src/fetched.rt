@@ -13,8 +13,8 @@ use btree_node::{LeafNode, Node, NodesMut};
 /// so that the walk does not wait for each of them alone.
 pub(crate) type Fetched<'a, K, V> = Slots<(usize, &'a Node<K, V>), LEAF_SLOTS>;
 
-// Returns the node with a number: the last one of `fetched` if it has that number, and else the one that the store has. `fetched` loses its
-// last node in either case.
+/// Returns the node with a number: the last one of `fetched` if it has that number, and else the one that the store has. `fetched` loses its
+/// last node in either case.
 #[inline]
 pub(crate) fn take_or_fetch<'a, K: Ord + 'a, V: 'a, C: NodesMut<K, V> + 'a>(
     tree: &'a Tree<K, V, C>,
@@ -72,7 +72,7 @@ fn fetch_children<'a, K: Ord + 'a, V: 'a, C: NodesMut<K, V> + 'a>(
     }
 }
 
-// Fetches the leaves before the one that a walk has come to, below the same parent, if none are left that were fetched before.
+/// Fetches the leaves before the one that a walk has come to, below the same parent, if none are left that were fetched before.
 pub(crate) fn fetch_before<'a, K: Ord + 'a, V: 'a, C: NodesMut<K, V> + 'a>(
     tree: &'a Tree<K, V, C>,
     ancestors: &Ancestors<'a, K, V>,

@@ -14,7 +14,6 @@ use btree_node::{LeafNode, NodesMut};
 use std::iter::{DoubleEndedIterator, ExactSizeIterator, FusedIterator};
 use std::marker::Model;
 
-// Returns the items of a leaf in order.
 #[inline]
 fn run_of<'a, K, V>(leaf: Option<&'a LeafNode<K, V>>) -> Option<SlotsIter<'a, Item<K, V>>>
     ensures { run_left result ≡ remaining_in_leaf leaf.entry 0 }
@@ -25,7 +24,7 @@ fn run_of<'a, K, V>(leaf: Option<&'a LeafNode<K, V>>) -> Option<SlotsIter<'a, It
     }
 }
 
-// Returns the items of a leaf after those that are passed.
+/// Returns the items of a leaf after those that are passed.
 pub(crate) fn run_from<'a, K, V>(
     leaf: Option<&'a LeafNode<K, V>>,
     passed: usize,
@@ -42,7 +41,6 @@ pub(crate) fn run_from<'a, K, V>(
     Some(run)
 }
 
-// Passes the next item of a leaf and returns it.
 #[inline]
 fn next_in_run<'a, K, V>(run: &mut Option<SlotsIter<'a, Item<K, V>>>) -> Option<(&'a K, &'a V)>
     ensures { GivesFirst (run_left run.old) result (run_left run.new) }
@@ -56,7 +54,7 @@ fn next_in_run<'a, K, V>(run: &mut Option<SlotsIter<'a, Item<K, V>>>) -> Option<
     }
 }
 
-// Passes the next pair of a forward walk and returns it.
+/// Passes the next pair of a forward walk and returns it.
 #[inline]
 pub(crate) fn next_pair<'a, K: Ord + 'a, V: 'a, C: NodesMut<K, V> + 'a>(
     tree: &'a Tree<K, V, C>,
@@ -101,10 +99,10 @@ fn step_back<'a, K: Ord + 'a, V: 'a, C: NodesMut<K, V> + 'a>(
     last
 }
 
-/// An iterator over the pairs of a tree in the order of the keys, from both ends, seen by contracts as the list of those that are left. It
-/// allocates no memory. A whole walk from the front fetches each node from the store once. One from the back fetches the path to the first
-/// leaf once more, where the iterator is made. A step inside a leaf reads that leaf alone. From the back, a step to another leaf may fetch all
-/// leaves before it that have the same parent, at most seven, for the steps to come.
+/// An iterator over the pairs of a tree in the order of the keys, from both ends, seen by contracts as the list of those that are left. A
+/// whole walk from the front fetches each node from the store once. One from the back fetches the path to the first leaf once more, where
+/// the iterator is made. A step inside a leaf reads that leaf alone. From the back, a step to another leaf may fetch all leaves before it
+/// that have the same parent, at most seven, for the steps to come.
 #[derive(Drop)]
 pub struct Iter<'a, K: Ord, V, C: NodesMut<K, V>> {
     tree: &'a Tree<K, V, C>,

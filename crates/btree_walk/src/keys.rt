@@ -9,7 +9,7 @@ use btree_node::NodesMut;
 use std::iter::{DoubleEndedIterator, ExactSizeIterator, FusedIterator};
 use std::marker::Model;
 
-/// An iterator over the keys of a tree in order, from both ends. It allocates no memory. It fetches the nodes that `Iter` does.
+/// An iterator over the keys of a tree in order, from both ends. It fetches the nodes that `Iter` does.
 #[derive(Drop)]
 pub struct Keys<'a, K: Ord, V, C: NodesMut<K, V>> {
     pairs: Iter<'a, K, V, C>,
@@ -81,8 +81,7 @@ impl<'a, K: Ord, V, C: NodesMut<K, V>> ExactSizeIterator for Keys<'a, K, V, C> {
 
 impl<'a, K: Ord, V, C: NodesMut<K, V>> FusedIterator for Keys<'a, K, V, C> {}
 
-/// An iterator over the values of a tree in the order of their keys, from both ends. It allocates no memory. It fetches the nodes that
-/// `Iter` does.
+/// An iterator over the values of a tree in the order of their keys, from both ends. It fetches the nodes that `Iter` does.
 #[derive(Drop)]
 pub struct Values<'a, K: Ord, V, C: NodesMut<K, V>> {
     pairs: Iter<'a, K, V, C>,

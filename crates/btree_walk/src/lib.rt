@@ -1,4 +1,4 @@
-//! Walks through a tree in the order of the keys.
+//! Walks through a tree in the order of the keys. They allocate no memory.
 #![tactic(auto)]
 
 mod ancestors;

@@ -12,7 +12,7 @@ use btree_ext::{BTreeExt, Tree};
 use btree_node::{LeafNode, Node, NodesMut};
 use std::ops::Bound;
 
-// Returns whether a key is past an end bound.
+/// Returns whether a key is past an end bound.
 #[inline]
 pub(crate) fn is_past<K: Ord>(end: Bound<&K>, key: &K) -> bool
     ensures { result ≡ is_past_end K.cmp (bound_key end.entry) key.now }
@@ -110,8 +110,8 @@ fn last_below<'a, K: Ord + 'a, V: 'a, C: NodesMut<K, V> + 'a>(
     }
 }
 
-// Returns the last pair that a forward walk has left and that is within an end bound. It looks at the nodes above the walk's leaf only as
-// far as it must, and at those under one of them.
+/// Returns the last pair that a forward walk has left and that is within an end bound. It looks at the nodes above the walk's leaf only as
+/// far as it must, and at those under one of them.
 pub(crate) fn last_within<'a, K: Ord + 'a, V: 'a, C: NodesMut<K, V> + 'a>(
     tree: &'a Tree<K, V, C>,
     leaf: Option<&'a LeafNode<K, V>>,

@@ -69,9 +69,9 @@ fn last_left<'a, K: Ord + 'a, V: 'a, C: NodesMut<K, V> + 'a>(
 }
 
 /// An iterator over the pairs of a tree between two bounds, in the order of the keys and from both ends, seen by contracts as the list of
-/// those that are left. It allocates no memory. Each step makes one comparison, with the key at the other end, and a step inside a leaf
-/// fetches no node. The second step from the back searches once more, for the place of the first. From that step on, a step from the back
-/// to another leaf may fetch all leaves before it that have the same parent, at most seven, even if they lie before the range.
+/// those that are left. Each step makes one comparison, with the key at the other end, and a step inside a leaf fetches no node. The second
+/// step from the back searches once more, for the place of the first. From that step on, a step from the back to another leaf may fetch all
+/// leaves before it that have the same parent, at most seven, even if they lie before the range.
 #[derive(Drop)]
 pub struct Range<'a, K: Ord, V, C: NodesMut<K, V>> {
     tree: &'a Tree<K, V, C>,

@@ -34,7 +34,7 @@ pub(crate) struct Back<'a, K, V> {
 }
 
 impl<'a, K: Ord + 'a, V: 'a> Front<'a, K, V> {
-    // Returns a walk that is nowhere yet.
+    /// Returns a walk that is nowhere yet.
     pub fn new() -> Self
         ensures none { result.ancestors ≡ [] }
     {
@@ -68,7 +68,7 @@ impl<'a, K: Ord + 'a, V: 'a> Front<'a, K, V> {
         self.passed = passed;
     }
 
-    // Passes the next pair and returns it.
+    /// Passes the next pair and returns it.
     pub fn next<C: NodesMut<K, V> + 'a>(
         &mut self,
         tree: &'a Tree<K, V, C>,
@@ -113,7 +113,7 @@ impl<'a, K: Ord + 'a, V: 'a> Front<'a, K, V> {
         Some(pair)
     }
 
-    // Starts at a bound, passes the first pair and returns it.
+    /// Starts at a bound, passes the first pair and returns it.
     pub fn first<C: NodesMut<K, V> + 'a>(
         &mut self,
         tree: &'a Tree<K, V, C>,
@@ -138,7 +138,7 @@ impl<'a, K: Ord + 'a, V: 'a> Front<'a, K, V> {
 }
 
 impl<'a, K: Ord + 'a, V: 'a> Back<'a, K, V> {
-    // Returns a walk that is nowhere yet.
+    /// Returns a walk that is nowhere yet.
     pub fn new() -> Self
         ensures none { result.ancestors ≡ [] }
         ensures fetched { result.fetched ≡ [] }
@@ -150,7 +150,7 @@ impl<'a, K: Ord + 'a, V: 'a> Back<'a, K, V> {
         }
     }
 
-    // Starts after all pairs.
+    /// Starts after all pairs.
     pub fn start<C: NodesMut<K, V> + 'a>(&mut self, tree: &'a Tree<K, V, C>)
         requires none { self.old.ancestors ≡ [] }
         requires fetched { AreFetched tree.now self.old.fetched }
@@ -200,7 +200,7 @@ impl<'a, K: Ord + 'a, V: 'a> Back<'a, K, V> {
         }
     }
 
-    // Passes the previous pair and returns it.
+    /// Passes the previous pair and returns it.
     #[inline]
     pub fn next_back<C: NodesMut<K, V> + 'a>(
         &mut self,
@@ -219,7 +219,7 @@ impl<'a, K: Ord + 'a, V: 'a> Back<'a, K, V> {
         self.last_above(tree)
     }
 
-    // Starts before a key, passes the last pair and returns it.
+    /// Starts before a key, passes the last pair and returns it.
     pub fn last_before<C: NodesMut<K, V> + 'a>(
         &mut self,
         tree: &'a Tree<K, V, C>,

@@ -2,11 +2,13 @@
 //! or elements, or by copies of them, compares each with the last one alone. An entry and an editing cursor insert and remove without any.
 use crate::asserts::{assert_same, assert_same_in, assert_true, assert_true_in};
 use btree_ext::BTreeExt;
+use btree_item::{After, Before, Query};
 use btree_map::{BTreeMap, EntriesMut, Entry};
 use btree_node::{Node, NodesMut};
 use btree_set::BTreeSet;
 use btree_store::SlabStore;
 use std::cell::Cell;
+use std::ops::{Bound, RangeBounds};
 use std::process::Abort;
 use test_support::Counted;
 
@@ -72,6 +74,29 @@ fn remove_once<'a, C: NodesMut<Counted<'a>, u32>>(
     }
 }
 
+// Seeks a place where no key is, with at most `most` comparisons.
+fn seek_place<K: Ord, Q: Query<K>, C: NodesMut<K, u32>>(
+    rt: &impl Abort,
+    map: &BTreeMap<K, u32, C>,
+    query: &Q,
+    compared: &Cell<u32>,
+    most: u32,
+) {
+    compared.set(0);
+    let is_there = map.contains_key_by(query);
+    assert_true(rt, !is_there && compared.get() <= most);
+}
+
+// Seeks the places before and after a key: no more comparisons than for the key, and at most twice as many.
+fn seek_beside<'a, C: NodesMut<Counted<'a>, u32>>(
+    rt: &impl Abort,
+    map: &BTreeMap<Counted<'a>, u32, C>,
+    key: Counted<'a>,
+) {
+    seek_place(rt, map, &Before(&key), key.compared, 18);
+    seek_place(rt, map, &After(&key), key.compared, 36);
+}
+
 // The same over any store: the odd keys up to 87, on three levels.
 fn asks_in<'a, C: NodesMut<Counted<'a>, u32> + Drop>(
     rt: &impl Abort,
@@ -93,6 +118,7 @@ fn asks_in<'a, C: NodesMut<Counted<'a>, u32> + Drop>(
         ask(rt, &mut map, Counted { number, compared }, 18);
         remove_once(rt, &mut map, Counted { number, compared }, false);
         remove_once(rt, &mut map, Counted { number, compared }, true);
+        seek_beside(rt, &map, Counted { number, compared });
     }
 }
 
@@ -229,6 +255,58 @@ fn numbers<'a, C: NodesMut<Counted<'a>, u32> + Drop>(
         assert_same_in(rt, number, replaced, Some(None));
     }
     map
+}
+
+// The numbers from one up to another are removed from those below 44: how many are left then, and how many comparisons it makes at most, 18
+// for a search, and one of each number with the end.
+const RANGES: [((u32, u32), usize, u32); 4] = [
+    ((0, 44), 0, 63),
+    ((10, 40), 14, 49),
+    ((20, 21), 43, 20),
+    ((30, 30), 44, 19),
+];
+
+// Removes a range. Returns how many comparisons it makes.
+fn remove_counted<K: Ord + Drop, R: RangeBounds<K>, C: NodesMut<K, u32>>(
+    map: &mut BTreeMap<K, u32, C>,
+    range: R,
+    compared: &Cell<u32>,
+) -> u32
+    requires { R.has_bounds range }
+{
+    compared.set(0);
+    map.remove_range(range);
+    compared.get()
+}
+
+fn removes_range<'a, C: NodesMut<Counted<'a>, u32> + Drop>(
+    compared: &'a Cell<u32>,
+    map: Map<'a, C>,
+    (start, end): (u32, u32),
+) -> (usize, u32) {
+    let mut map = map;
+    let low = Counted {
+        number: start,
+        compared,
+    };
+    let high = Counted {
+        number: end,
+        compared,
+    };
+    let bounds = (Bound::Included(&low), Bound::Excluded(&high));
+    let made = remove_counted(&mut map, bounds, compared);
+    (map.len(), made)
+}
+
+#[test]
+fn a_range_is_sought_once(rt: HostRuntime) {
+    for (range, left, most) in RANGES {
+        let compared = Cell::new(0u32);
+        let map = numbers::<Store<'_>>(&rt, &compared, rt.alloc(), (0, 44));
+        let (len, made) = removes_range(&compared, map, range);
+        assert_same_in(&rt, range.0, len, left);
+        assert_true_in(&rt, range.0, made <= most);
+    }
 }
 
 // Extends a map by the pairs of another one. Returns whether none was refused.

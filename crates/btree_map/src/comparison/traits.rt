@@ -14,7 +14,7 @@ use std::hash::{Hash, Hasher};
 
 impl<K: Ord, V, C: NodesMut<K, V>> BTreeMap<K, V, C> {
     /// Returns whether two maps, which may have different stores, have equal pairs. It compares each pair once, up to the first that
-    /// differs, and allocates no memory.
+    /// differs.
     pub fn same_items<D: NodesMut<K, V>>(&self, other: &BTreeMap<K, V, D>) -> bool
     where
         V: PartialEq,
@@ -24,7 +24,7 @@ impl<K: Ord, V, C: NodesMut<K, V>> BTreeMap<K, V, C> {
     }
 
     /// Compares the pairs of two maps, which may have different stores, lexicographically: each pair by its key and then by its value. It
-    /// stops at the first pair that differs, and allocates no memory.
+    /// stops at the first pair that differs.
     pub fn compare_items<D: NodesMut<K, V>>(&self, other: &BTreeMap<K, V, D>) -> Ordering
     where
         V: Ord,

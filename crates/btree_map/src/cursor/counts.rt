@@ -9,7 +9,7 @@ use btree_ext::BTreeExt;
 use btree_item::Address;
 use btree_node::NodesMut;
 
-// Returns the count one higher, if it is known.
+/// Returns the count one higher, if it is known.
 pub(crate) fn one_more(known: Option<usize>) -> Option<usize>
     requires { IfSome known (λ n. n < 2 ^ 64 - 1) }
     ensures { result ≡ option_map (λ n. n + 1) known }
@@ -20,7 +20,7 @@ pub(crate) fn one_more(known: Option<usize>) -> Option<usize>
     }
 }
 
-// Counts the items from an address on.
+/// Counts the items from an address on.
 pub(crate) fn count_from<K: Ord, V, C: NodesMut<K, V>>(
     map: &BTreeMap<K, V, C>,
     first: Option<Address>,

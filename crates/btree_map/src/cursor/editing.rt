@@ -14,9 +14,9 @@ use btree_node::NodesMut;
 #[derive(Drop)]
 pub struct EntriesMut<'a, K: Ord, V, C: NodesMut<K, V>> {
     pub(crate) map: &'a mut BTreeMap<K, V, C>,
-    // The address of the first item that is left.
+    /// The address of the first item that is left.
     pub(crate) first: Option<Address>,
-    // How many pairs have been passed, if that is known.
+    /// How many pairs have been passed, if that is known.
     pub(crate) known: Option<usize>,
     ghost first_stands: { IsFirstListed map.now first },
     ghost counted: { ForSome known (λ n. n ≡ item_index map.now first) },

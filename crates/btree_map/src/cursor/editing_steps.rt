@@ -40,7 +40,7 @@ impl<K: Ord, V, C: NodesMut<K, V>> BTreeMap<K, V, C> {
 
     /// Returns a cursor as `entries_mut` does. It starts before the first pair that the bound lets in, as the start of a range.
     ///
-    /// It makes no more comparisons than a look-up, reads at most two nodes of each level, and allocates no memory.
+    /// It makes no more comparisons than a look-up, and reads at most two nodes of each level.
     pub fn entries_mut_from(&mut self, start: Bound<&K>) -> EntriesMut<'_, K, V, C>
         ensures same_map { result.map.ghost_name ≡ self.entry.ghost_name }
         ensures unchanged { result.map.now ≡ self.old }
@@ -58,7 +58,7 @@ impl<K: Ord, V, C: NodesMut<K, V>> BTreeMap<K, V, C> {
 }
 
 impl<'a, K: Ord, V, C: NodesMut<K, V>> EntriesMut<'a, K, V, C> {
-    // Returns the cursor at a place.
+    /// Returns the cursor at a place.
     pub(crate) fn at(map: &'a mut BTreeMap<K, V, C>, first: Option<Address>, front: usize) -> Self
         requires stands { first ≡ slice_get (item_addresses_of map.old) front }
         requires within { front ≤ length (item_addresses_of map.old) }
@@ -103,7 +103,6 @@ impl<'a, K: Ord, V, C: NodesMut<K, V>> EntriesMut<'a, K, V, C> {
         self.first.is_none()
     }
 
-    // Returns how many pairs are left.
     fn count_left(&self) -> usize
         ensures { result ≡ length (left_of self.now) }
     {
@@ -114,7 +113,7 @@ impl<'a, K: Ord, V, C: NodesMut<K, V>> EntriesMut<'a, K, V, C> {
         self.map.len().saturating_sub(passed)
     }
 
-    // Returns how many pairs have been passed.
+    /// Returns how many pairs have been passed.
     pub(crate) fn count_passed(&self) -> usize
         ensures { result ≡ entry_front self.now }
     {
@@ -203,7 +202,7 @@ impl<'a, K: Ord + Drop, V: Drop, C: NodesMut<K, V>> EntriesMut<'a, K, V, C> {
         Some(item)
     }
 
-    // Passes the first pair that is left. It reads at most one node of each level.
+    /// Passes the first pair that is left. It reads at most one node of each level.
     pub(crate) fn pass(&mut self)
         requires { 0 < length (left_of self.old) }
         ensures { (x : K × V) × PassesEntry self.old self.new x }

@@ -13,7 +13,7 @@ use btree_ext::{BTreeExt, BTreeExtMut};
 use btree_item::Address;
 use btree_node::NodesMut;
 
-// Returns the address of the item after the one at an address.
+/// Returns the address of the item after the one at an address.
 pub(crate) fn address_after<K: Ord, V, C: NodesMut<K, V>>(
     map: &BTreeMap<K, V, C>,
     addr: Address,
@@ -27,7 +27,7 @@ pub(crate) fn address_after<K: Ord, V, C: NodesMut<K, V>>(
     map.next_item_address(addr)
 }
 
-// Returns the address of the item before the one at an address.
+/// Returns the address of the item before the one at an address.
 pub(crate) fn address_before<K: Ord, V, C: NodesMut<K, V>>(
     map: &BTreeMap<K, V, C>,
     addr: Address,
@@ -64,7 +64,7 @@ impl<'a, K: Ord, V, C: NodesMut<K, V>> IterMut<'a, K, V, C> {
 
 impl<'a, K: Ord + Drop, V: Drop, C: NodesMut<K, V>> IterMut<'a, K, V, C> {
     /// Returns the key of the first pair that is left, and its value for writing. What is written replaces the value, and nothing else
-    /// changes: the key stays, and so does every address. It reads at most one node of each level, needs no new node and cannot fail.
+    /// changes: the key stays, and so does every address.
     ///
     /// A pair must be left: `len` decides that. `next` returns `None` if there is none.
     pub fn next_pair(&mut self) -> (&K, &mut V)

@@ -25,8 +25,7 @@ impl<'a, K: Ord, V, C: NodesMut<K, V>> RangeMut<'a, K, V, C> {
 
 impl<'a, K: Ord + Drop, V: Drop, C: NodesMut<K, V>> RangeMut<'a, K, V, C> {
     /// Returns the key of the first pair that is left, and its value for writing. What is written replaces the value, and nothing else
-    /// changes: the key stays, and so does every address. It reads at most one node of each level, compares no keys, needs no new node and
-    /// cannot fail.
+    /// changes: the key stays, and so does every address.
     ///
     /// A pair must be left: `is_empty` decides that. `next` returns `None` if there is none.
     pub fn next_pair(&mut self) -> (&K, &mut V)

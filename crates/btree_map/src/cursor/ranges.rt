@@ -13,7 +13,7 @@ use btree_item::Address;
 use btree_node::NodesMut;
 use std::ops::{Bound, RangeBounds};
 
-// Returns the address of the first item that is not before a start bound.
+/// Returns the address of the first item that is not before a start bound.
 pub(crate) fn first_from<K: Ord, V, C: NodesMut<K, V>>(
     map: &BTreeMap<K, V, C>,
     start: Bound<&K>,
@@ -83,10 +83,10 @@ fn are_in_order<K: Ord, V, C: NodesMut<K, V>>(
 }
 
 impl<K: Ord, V, C: NodesMut<K, V>> BTreeMap<K, V, C> {
-    /// Returns a cursor over the pairs whose keys are in a range, as `range` takes it, which lends their values for writing. The start must be at most the end, and they may not be equal if both are excluded: `is_valid_range` tells.
+    /// Returns a cursor over the pairs whose keys are in a range, as `range` takes it, which lends their values for writing. The
+    /// start must be at most the end, and they may not be equal if both are excluded: `is_valid_range` tells.
     ///
-    /// It reads at most four nodes of each level and two more, makes at most twelve comparisons at each level and one more, and allocates
-    /// no memory.
+    /// It reads at most four nodes of each level and two more, and makes at most twelve comparisons at each level and one more.
     pub fn range_mut<R: RangeBounds<K> + Drop>(&mut self, range: R) -> RangeMut<'_, K, V, C>
         requires bounds { R.has_bounds range }
         requires valid { is_valid K.cmp (R.start_bound range) (R.end_bound range) ≡ true }

@@ -33,7 +33,7 @@ impl<'a, K: Ord, V, C: NodesMut<K, V>> ValuesMut<'a, K, V, C> {
 
 impl<'a, K: Ord + Drop, V: Drop, C: NodesMut<K, V>> ValuesMut<'a, K, V, C> {
     /// Returns the first value that is left for writing. What is written replaces the value, and nothing else changes: the keys stay, and so
-    /// does every address. It reads at most one node of each level, needs no new node and cannot fail.
+    /// does every address.
     ///
     /// A value must be left: `len` decides that. `next` returns `None` if there is none.
     pub fn next_value(&mut self) -> &mut V

@@ -96,7 +96,7 @@ impl<K: Ord + Drop, V: Drop, C: NodesMut<K, V>> BTreeMap<K, V, C> {
     }
 
     /// Keeps the pairs for which the closure returns `true`, and drops the others. It is called once at each pair, in order, and may write to
-    /// the value. If it keeps all pairs, every address stays. It allocates no memory and cannot fail.
+    /// the value. If it keeps all pairs, every address stays. It cannot fail.
     pub fn retain<F: FnMut(&K, &mut V) -> bool>(&mut self, f: F)
         requires { CallableOnEachPair
             (CalledAtPair F.FnMut) (TakesPair F.FnMut) f (pairs_of self.old) }

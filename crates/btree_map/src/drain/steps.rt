@@ -1,4 +1,4 @@
-//! How a drain asks.
+//! How a drain asks. It reads and writes what a cursor does, allocates no memory and cannot fail.
 ghost use Rattle.std.specs.Prelude.{◌≡◌, ◌<◌, ◌≤◌, Some, drop, length, slice_get, true};
 ghost use Rattle.std.specs.Map.Calls.{CallableOnEachPair};
 ghost use Rattle.btree_laws.specs.TreeAddresses.{item_addresses_of};
@@ -53,7 +53,7 @@ fn seek<K: Ord + Drop, V: Drop, C: NodesMut<K, V>, P: PairTest<K, V>>(
     (entries.first, entries.count_passed(), None)
 }
 
-// Asks at all pairs that are left, and removes those with the answer `takes`. The others are passed.
+/// Asks at all pairs that are left, and removes those with the answer `takes`. The others are passed.
 pub(crate) fn run_rest<'a, 'b, 'c, K: Ord + Drop, V: Drop, C: NodesMut<K, V>, P: PairTest<K, V>>(
     entries: &'b mut EntriesMut<'a, K, V, C>,
     test: &'c mut P,
@@ -76,7 +76,7 @@ pub(crate) fn run_rest<'a, 'b, 'c, K: Ord + Drop, V: Drop, C: NodesMut<K, V>, P:
 
 /// Asks at all pairs of a map from place `front` on, and removes those that pass: the end of a drain, for types that stand on a map.
 ///
-/// The address must be that of the item at the place. It reads and writes what a cursor does, allocates no memory and cannot fail.
+/// The address must be that of the item at the place.
 pub fn run_out<'a, K: Ord + Drop, V: Drop, C: NodesMut<K, V>, P: PairTest<K, V>>(
     map: &'a mut BTreeMap<K, V, C>,
     first: Option<Address>,
@@ -96,7 +96,7 @@ pub fn run_out<'a, K: Ord + Drop, V: Drop, C: NodesMut<K, V>, P: PairTest<K, V>>
 /// Asks at the pairs of a map from place `front` on until one passes, and removes and returns that one: a step of a drain, for types that
 /// stand on a map. Returns where the pair after it is, too.
 ///
-/// The address must be that of the item at the place. It reads and writes what a cursor does, allocates no memory and cannot fail.
+/// The address must be that of the item at the place.
 pub fn seek_from<'a, K: Ord + Drop, V: Drop, C: NodesMut<K, V>, P: PairTest<K, V>>(
     map: &'a mut BTreeMap<K, V, C>,
     first: Option<Address>,

@@ -36,8 +36,6 @@ impl<'a, K: Ord, V, C: NodesMut<K, V>> Entry<'a, K, V, C> {
 
 impl<'a, K: Ord + Drop, V: Drop, C: NodesMut<K, V>> Entry<'a, K, V, C> {
     /// Inserts `default` if the key is not there, and lends the value for writing. If the key is there, `default` is dropped.
-    ///
-    /// It compares no keys. A refused insertion returns key and value.
     pub fn or_insert(self, default: V) -> Result<&'a mut V, Refused<K, V>>
         ensures* writes_back { sem 𝓛 (entry_lends K.row V.row C.row C.Origin.row self.entry result) }
         ensures value { IfOk result (λ v.
@@ -52,8 +50,6 @@ impl<'a, K: Ord + Drop, V: Drop, C: NodesMut<K, V>> Entry<'a, K, V, C> {
 
     /// Inserts what `default` returns if the key is not there, and lends the value for writing. `default` is called only then, and before
     /// the insertion.
-    ///
-    /// It compares no keys. A refused insertion returns key and value.
     pub fn or_insert_with<F: FnOnce() -> V>(self, default: F) -> Result<&'a mut V, Refused<K, V>>
         requires { entry_value self ≡ None → F.pre default }
         ensures* writes_back { sem 𝓛 (entry_lends K.row V.row C.row C.Origin.row self.entry result) }
@@ -89,8 +85,6 @@ impl<'a, K: Ord + Drop, V: Drop, C: NodesMut<K, V>> Entry<'a, K, V, C> {
     }
 
     /// Inserts the key with a value, or replaces the value that is there, which is dropped, and returns the entry of the pair.
-    ///
-    /// It compares no keys. A refused insertion returns key and value.
     pub fn insert_entry(self, value: V) -> Result<OccupiedEntry<'a, K, V, C>, Refused<K, V>>
         ensures* rests { sem 𝓛 (entry_rests K.row V.row C.row C.Origin.row self.entry result) }
         ensures same_map { IfOk result (λ e. e.map.ghost_name ≡ (entry_map self.entry).ghost_name) }
@@ -104,8 +98,6 @@ impl<'a, K: Ord + Drop, V: Drop, C: NodesMut<K, V>> Entry<'a, K, V, C> {
     }
 
     /// Inserts the default value if the key is not there, and lends the value for writing.
-    ///
-    /// It compares no keys. A refused insertion returns key and value.
     pub fn or_default(self) -> Result<&'a mut V, Refused<K, V>>
     where
         V: Default,

@@ -13,7 +13,6 @@ use btree_item::{Address, Refused};
 use btree_node::NodesMut;
 use std::mem;
 
-// Removes the item at an address.
 fn take_at<K: Ord + Drop, V: Drop, C: NodesMut<K, V>>(
     map: &mut BTreeMap<K, V, C>,
     addr: Address,
@@ -79,7 +78,7 @@ impl<'a, K: Ord + Drop, V: Drop, C: NodesMut<K, V>> OccupiedEntry<'a, K, V, C> {
         mem::replace(self.get_mut(), value)
     }
 
-    // Replaces the value, which is dropped, and returns the entry. It cannot fail: the result is that of `insert_entry`.
+    /// Replaces the value, which is dropped, and returns the entry. It cannot fail: the result is that of `insert_entry`.
     pub(crate) fn enter(self, value: V) -> Result<OccupiedEntry<'a, K, V, C>, Refused<K, V>>
         ensures* rests { sem 𝓛 (rests_if_entered
             K.row V.row C.row C.Origin.row self.entry result) }
@@ -108,7 +107,7 @@ impl<'a, K: Ord + Drop, V: Drop, C: NodesMut<K, V>> OccupiedEntry<'a, K, V, C> {
         value
     }
 
-    /// Removes the pair, and returns its value. The stored key is dropped. It frees at most as many nodes as the map has levels.
+    /// Removes the pair, and returns its value. The stored key is dropped.
     pub fn remove(self) -> V
         ensures { RemovesValueAt K.cmp self.entry.map.now self.exit.0.now self.entry.at result }
     {
@@ -116,7 +115,7 @@ impl<'a, K: Ord + Drop, V: Drop, C: NodesMut<K, V>> OccupiedEntry<'a, K, V, C> {
         value
     }
 
-    /// Removes the pair, and returns it. It compares no keys, frees at most as many nodes as the map has levels and cannot fail.
+    /// Removes the pair, and returns it with the stored key.
     pub fn remove_entry(self) -> (K, V)
         ensures { RemovesAt K.cmp self.entry.map.now self.exit.0.now self.entry.at result }
     {

@@ -39,9 +39,7 @@ impl<'a, K: Ord, V, C: NodesMut<K, V>> VacantEntry<'a, K, V, C> {
 }
 
 impl<'a, K: Ord + Drop, V: Drop, C: NodesMut<K, V>> VacantEntry<'a, K, V, C> {
-    /// Inserts the key with a value, and lends the value for writing. It compares no keys.
-    ///
-    /// It uses the same nodes as an insertion by key, and returns the same errors, with key and value.
+    /// Inserts the key with a value, and lends the value for writing.
     pub fn insert(self, value: V) -> Result<&'a mut V, Refused<K, V>>
         ensures* writes_back { sem 𝓛 (lends_inserted
             K.row V.row C.row C.Origin.row self.entry value result) }
@@ -58,9 +56,7 @@ impl<'a, K: Ord + Drop, V: Drop, C: NodesMut<K, V>> VacantEntry<'a, K, V, C> {
         }
     }
 
-    /// Inserts the key with a value, and returns the entry of the pair. It compares no keys.
-    ///
-    /// It uses the same nodes as an insertion by key, and returns the same errors, with key and value.
+    /// Inserts the key with a value, and returns the entry of the pair.
     pub fn insert_entry(self, value: V) -> Result<OccupiedEntry<'a, K, V, C>, Refused<K, V>>
         ensures* rests { sem 𝓛 (rests_if_refused
             K.row V.row C.row C.Origin.row self.entry result) }

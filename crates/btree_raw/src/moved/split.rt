@@ -4,7 +4,6 @@ ghost use Rattle.btree_laws.specs.Moved as moved;
 
 use btree_item::{Address, Offset};
 
-// Returns the new address of an offset of a node that was split and has kept `kept` items.
 fn node_after_split(
     offset: Offset,
     left: usize,
@@ -23,7 +22,6 @@ fn node_after_split(
     }
 }
 
-// Returns the new address of an offset of a node that has one item more, at the index.
 fn parent_after_split(offset: Offset, parent: usize, index: usize) -> Address
     requires { IfSome offset (λ n. n + 1 < usize.MAX) }
     ensures { result ≡ moved.parent_after_split parent index offset }

@@ -95,7 +95,7 @@ impl<T: Ord + Drop, C: NodesMut<T, ()>> BTreeSet<T, C> {
     }
 
     /// Keeps the elements for which the closure returns `true`, and drops the others. It is called once at each element, in order. If it keeps
-    /// all elements, every address stays. It allocates no memory and cannot fail.
+    /// all elements, every address stays. It cannot fail.
     pub fn retain<F: FnMut(&T) -> bool>(&mut self, f: F)
         requires { CallableOnEach (CalledAt F.FnMut) (TakesAt F.FnMut) f self.old.elements }
         ensures kept { Selects (CalledAt F.FnMut) true f self.old.elements self.new.elements }

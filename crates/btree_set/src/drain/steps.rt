@@ -10,7 +10,7 @@ use btree_item::Address;
 use btree_map::{ByKey, run_out, seek_from};
 use btree_node::NodesMut;
 
-// Asks at the elements from place `front` on until one is picked, and removes that one. Returns where the element after it is, too.
+/// Asks at the elements from place `front` on until one is picked, and removes that one. Returns where the element after it is, too.
 pub(crate) fn seek<T: Ord + Drop, C: NodesMut<T, ()>, F: FnMut(&T) -> bool>(
     set: &mut BTreeSet<T, C>,
     first: Option<Address>,
@@ -29,7 +29,7 @@ pub(crate) fn seek<T: Ord + Drop, C: NodesMut<T, ()>, F: FnMut(&T) -> bool>(
     (first, front, first_of(pair))
 }
 
-// Asks at all elements from place `front` on, and removes those that are picked.
+/// Asks at all elements from place `front` on, and removes those that are picked.
 pub(crate) fn run_rest<T: Ord + Drop, C: NodesMut<T, ()>, F: FnMut(&T) -> bool>(
     set: &mut BTreeSet<T, C>,
     first: Option<Address>,

@@ -1,7 +1,7 @@
 use Rattle.std.proofs.Common.{◌∙◌, ap, is_ok, subst, sym}
 use Rattle.btree_laws.specs.TreeState.{TreeState, pairs_of}
 use Rattle.btree_fixed.specs.Capacity.{InsertsByEntry}
-use Rattle.btree_fixed.specs.EntryLaws.{entry-inserts, entry-keeps}
+use Rattle.btree_fixed.proofs.EntryLaws.{entry-inserts, entry-keeps}
 use Rattle.btree_fixed.proofs.entries.insert_by_entry.Goals as goal
 
 pub returns-in-Ok-clause-inserted : goal.returns-in-Ok-clause-inserted

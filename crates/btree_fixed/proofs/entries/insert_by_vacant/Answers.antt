@@ -1,6 +1,6 @@
 use Rattle.std.proofs.Common.{◌∙◌, ap, refl, sym}
 use Rattle.btree_laws.specs.TreeState.{pairs_of}
-use Rattle.btree_fixed.specs.EntryLaws.{exchanged-kept}
+use Rattle.btree_fixed.proofs.EntryLaws.{exchanged-kept}
 use Rattle.btree_fixed.proofs.entries.insert_by_vacant.Goals as goal
 
 pub returns-in-Occupied-clause-present : goal.returns-in-Occupied-clause-present

@@ -1,5 +1,5 @@
-use Rattle.btree_fixed.specs.CapacityLaws.{taken}
-use Rattle.btree_fixed.specs.EntryLaws.{by_entry-exact}
+use Rattle.btree_fixed.proofs.CapacityLaws.{taken}
+use Rattle.btree_fixed.proofs.EntryLaws.{by_entry-exact}
 use Rattle.btree_fixed.proofs.entries.insert_vacant.Goals as goal
 
 pub returns-clause-exact : goal.returns-clause-exact

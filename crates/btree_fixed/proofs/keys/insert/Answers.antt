@@ -1,4 +1,4 @@
-use Rattle.btree_fixed.specs.CapacityLaws.{insert-exact, taken}
+use Rattle.btree_fixed.proofs.CapacityLaws.{insert-exact, taken}
 use Rattle.btree_fixed.proofs.keys.insert.Goals as goal
 
 pub returns-clause-exact : goal.returns-clause-exact

@@ -1,4 +1,4 @@
-use Rattle.btree_fixed.specs.CapacityLaws.{replace-exact, taken}
+use Rattle.btree_fixed.proofs.CapacityLaws.{replace-exact, taken}
 use Rattle.btree_fixed.proofs.keys.replace.Goals as goal
 
 pub returns-clause-exact : goal.returns-clause-exact

@@ -1,4 +1,4 @@
-use Rattle.btree_fixed.specs.CapacityLaws.{taken, update-exact}
+use Rattle.btree_fixed.proofs.CapacityLaws.{taken, update-exact}
 use Rattle.btree_fixed.proofs.keys.update_in.Goals as goal
 
 pub returns-clause-exact : goal.returns-clause-exact

@@ -1,4 +1,4 @@
-use Rattle.btree_fixed.specs.CapacityLaws.{insert_at-exact, taken-at}
+use Rattle.btree_fixed.proofs.CapacityLaws.{insert_at-exact, taken-at}
 use Rattle.btree_fixed.proofs.places.insert_exactly_at.Goals as goal
 
 pub returns-clause-exact : goal.returns-clause-exact

@@ -6,7 +6,7 @@ use Rattle.btree_find.specs.Navigation.{HasPlace}
 use Rattle.btree_ext.specs.InsertAt.{IsRefusedAt}
 use Rattle.btree_map.specs.Editing.{entry_front}
 use Rattle.btree_fixed.specs.Capacity.{HoldsAll, RefusesExactlyAtPlace, TakesFew}
-use Rattle.btree_fixed.specs.CursorLaws.{cursor-exact, cursor-taken, front-passed}
+use Rattle.btree_fixed.proofs.CursorLaws.{cursor-exact, cursor-taken, front-passed}
 use Rattle.btree_fixed.proofs.CursorLemmas.{cursor-inserted, none-inserted, same-map}
 use Rattle.btree_fixed.proofs.places.insert_from.Goals as goal
 

@@ -1,4 +1,4 @@
-use Rattle.btree_fixed.specs.SetLaws.{insert_element-exact, taken-element}
+use Rattle.btree_fixed.proofs.SetLaws.{insert_element-exact, taken-element}
 use Rattle.btree_fixed.proofs.sets.insert_element.Goals as goal
 
 pub returns-clause-exact : goal.returns-clause-exact

@@ -1,4 +1,4 @@
-use Rattle.btree_fixed.specs.SetLaws.{replace_element-exact, taken-element}
+use Rattle.btree_fixed.proofs.SetLaws.{replace_element-exact, taken-element}
 use Rattle.btree_fixed.proofs.sets.replace_element.Goals as goal
 
 pub returns-clause-exact : goal.returns-clause-exact

@@ -1,8 +1,8 @@
 use Rattle.std.proofs.lemmas.Result.{err_from_is_err_and}
-use Rattle.btree_session.specs.declared.drive.Stop.TheVariants.{Input}
+use Rattle.btree_session.specs.declared.driver.Stop.TheVariants.{Input}
 use Rattle.btree_session.proofs.Common.{arith}
 use Rattle.btree_session.proofs.Serving.{begun, most, written, stopped, between_lines, at_line, goes_on, append_known-grows}
-use Rattle.btree_session.proofs.drive.serve.Goals as goal
+use Rattle.btree_session.proofs.driver.serve.Goals as goal
 
 pub loop-number-init : goal.loop-number-init
 loop-number-init g c = begun _ _ _ _

@@ -1,6 +1,6 @@
 use Rattle.btree_session.proofs.Common.{sym}
 use Rattle.btree_session.proofs.Serving.{in_reader}
-use Rattle.btree_session.proofs.drive.buffered_line.Goals as goal
+use Rattle.btree_session.proofs.driver.buffered_line.Goals as goal
 
 pub returns-clause-line : goal.returns-clause-line
 returns-clause-line g c =

@@ -25,7 +25,7 @@ pub fn split_need<K, V, C: NodesMut<K, V>>(tree: &RawBTree<K, V, C>, start: usiz
     split_need_above(tree, start, parent)
 }
 
-// Does the same for a full node that the caller has just fetched, with this parent. It begins to read there.
+/// Does the same as `split_need` for a full node that the caller has just fetched, with this parent. It begins to read there.
 pub(crate) fn split_need_above<K, V, C: NodesMut<K, V>>(
     tree: &RawBTree<K, V, C>,
     start: usize,

@@ -29,7 +29,7 @@ use Rattle.btree_map.specs.Written.{IsInsertedWith}
 use Rattle.btree_map.specs.declared.entry.Entry.{Entry}
 use Rattle.btree_map.specs.declared.entry.Entry.TheVariants.{Vacant, Occupied}
 use Rattle.btree_fixed.specs.Capacity.{InsertsByEntry, RefusesExactly}
-use Rattle.btree_fixed.specs.CapacityLaws.{RefusedByKey, exact-by}
+use Rattle.btree_fixed.proofs.CapacityLaws.{RefusedByKey, exact-by}
 
 -- a value that is written needs no node
 written-count : {K V : Type 0} (s : TreeState K V) (a : Address) (w : V) → map.len (value_written s a w).nodes ≡ map.len s.nodes

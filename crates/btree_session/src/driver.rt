@@ -56,7 +56,7 @@ pub fn drive<C: ClearNodes<u64, u64>, R: Read, W: Write>(
     result
 }
 
-/// Serves lines until the input ends. What is left in `text` is still to be written.
+// Serves lines until the input ends. What is left in `text` is still to be written.
 fn serve<C: ClearNodes<u64, u64>, R: Read, W: Write>(
     alloc: Global,
     session: &mut Session<C>,
@@ -77,8 +77,8 @@ fn serve<C: ClearNodes<u64, u64>, R: Read, W: Write>(
     Err(Stop::Input)
 }
 
-/// Reads the next line, if there is one, and returns its meaning. Before it reads more input, and if the text is long, it writes the text
-/// out.
+// Reads the next line, if there is one, and returns its meaning. Before it reads more input, and if the text is long, it writes the text
+// out.
 fn next_line<R: Read, W: Write>(
     reader: &mut BufReader<R>,
     line: &mut Vec<u8>,
@@ -102,7 +102,7 @@ fn next_line<R: Read, W: Write>(
     read_line(reader, line)
 }
 
-/// Returns the meaning of the next line, if the reader's buffer has the whole line.
+// Returns the meaning of the next line, if the reader's buffer has the whole line.
 fn buffered_line<R: Read>(reader: &mut BufReader<R>) -> Option<Line>
     ensures line { IfSome result (TakesLine R.remaining reader.old reader.new) }
     ensures none { IfNone result (reader.new ≡ reader.old) }
@@ -121,7 +121,7 @@ fn newline_place(bytes: &[u8]) -> Option<usize>
     bytes.iter().position(|byte| *byte == b'\n')
 }
 
-/// Reads the next line, if there is one, and returns its meaning. The vector holds the line.
+// Reads the next line, if there is one, and returns its meaning. The vector holds the line.
 fn read_line<R: Read>(reader: &mut BufReader<R>, line: &mut Vec<u8>) -> Result<Option<Line>, Stop>
     ensures line { IfOk result (λ next. IfSome next
         (TakesLine R.remaining reader.old reader.new)) }
@@ -138,7 +138,7 @@ fn read_line<R: Read>(reader: &mut BufReader<R>, line: &mut Vec<u8>) -> Result<O
     }
 }
 
-/// Runs what a line means and appends the reply to the text. An `Err` changes nothing.
+// Runs what a line means and appends the reply to the text. An `Err` changes nothing.
 fn serve_line<C: ClearNodes<u64, u64>>(
     session: &mut Session<C>,
     said: Line,
@@ -165,7 +165,7 @@ fn serve_line<C: ClearNodes<u64, u64>>(
     }
 }
 
-/// Runs a command and appends the reply to the text. Room for the reply is made first; if that is refused, the command is not run.
+// Runs a command and appends the reply to the text. Room for the reply is made first; if that is refused, the command is not run.
 fn obey<C: ClearNodes<u64, u64>>(
     session: &mut Session<C>,
     command: Command,
@@ -183,7 +183,7 @@ fn obey<C: ClearNodes<u64, u64>>(
     Ok(())
 }
 
-/// Appends the answer to a question to the text. An `Err` changes nothing.
+// Appends the answer to a question to the text. An `Err` changes nothing.
 fn answer<C: NodesMut<u64, u64>>(
     session: &Session<C>,
     question: Question,
@@ -203,7 +203,7 @@ fn answer<C: NodesMut<u64, u64>>(
     }
 }
 
-/// Writes the text out if it has more bytes than `MOST_TEXT`.
+// Writes the text out if it has more bytes than `MOST_TEXT`.
 fn write_out_long<W: Write>(text: &mut Vec<u8>, output: &mut W) -> Result<(), Stop>
     ensures ok { OnOk result (WritesOut W.contents output.old text.old output.new text.new) }
     ensures err { IfErr result (λ stop. stop ≡ Stop.Output) }
@@ -214,7 +214,7 @@ fn write_out_long<W: Write>(text: &mut Vec<u8>, output: &mut W) -> Result<(), St
     Ok(())
 }
 
-/// Writes the text out and empties it, whether the write succeeds or not.
+// Writes the text out and empties it, whether the write succeeds or not.
 fn write_out<W: Write>(text: &mut Vec<u8>, output: &mut W) -> Result<(), Stop>
     ensures empty { text.new.items ≡ [] }
     ensures ok { OnOk result (WritesOut W.contents output.old text.old output.new text.new) }

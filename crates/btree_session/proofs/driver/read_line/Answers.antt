@@ -1,6 +1,6 @@
 use Rattle.btree_session.proofs.Common.{arith}
 use Rattle.btree_session.proofs.Serving.{read_through}
-use Rattle.btree_session.proofs.drive.read_line.Goals as goal
+use Rattle.btree_session.proofs.driver.read_line.Goals as goal
 
 pub returns-in-Ok-clause-line : goal.returns-in-Ok-clause-line
 returns-in-Ok-clause-line g c =

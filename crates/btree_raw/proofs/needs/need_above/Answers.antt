@@ -1,7 +1,7 @@
 use Rattle.btree_raw.proofs.Common.{◌∙◌, rules}
 use Rattle.btree_raw.proofs.NeedLemmas.{need-split_need, need-counting}
 use Rattle.btree_raw.proofs.StateLemmas.{used-here}
-use Rattle.btree_raw.proofs.need.need_above.Goals as goal
+use Rattle.btree_raw.proofs.needs.need_above.Goals as goal
 
 pub split_need_above-requires-clause-counting : goal.split_need_above-requires-clause-counting
 split_need_above-requires-clause-counting g c =

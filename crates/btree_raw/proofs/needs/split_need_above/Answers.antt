@@ -3,7 +3,7 @@ use Rattle.std.specs.FinMap as map
 use Rattle.btree_raw.proofs.CountLemmas.{count-there, count-all, count-top, count-next, count-smaller, count-fits}
 use Rattle.btree_raw.proofs.FetchedLemmas.{parent-named, parent-there}
 use Rattle.btree_raw.proofs.NeedLemmas.{is-full, not-full}
-use Rattle.btree_raw.proofs.need.split_need_above.Goals as goal
+use Rattle.btree_raw.proofs.needs.split_need_above.Goals as goal
 
 pub loop-above-init : goal.loop-above-init
 loop-above-init g c = record { counting = c.requires.counting; full = c.requires.full; parent = c.requires.parent }

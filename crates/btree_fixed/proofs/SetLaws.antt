@@ -15,7 +15,7 @@ use Rattle.btree_ext.specs.Replace.{ReplacesByKey}
 use Rattle.btree_set.specs.Elements.{IsInTree, IsRefused, SetState, stored}
 use Rattle.btree_set.proofs.KeyLemmas.{stored-keys}
 use Rattle.btree_fixed.specs.Capacity.{HoldsAll, RefusesElementExactly, TakesFewElements}
-use Rattle.btree_fixed.specs.CapacityLaws.{RefusedByKey, insert-exact, replace-exact, taken}
+use Rattle.btree_fixed.proofs.CapacityLaws.{RefusedByKey, insert-exact, replace-exact, taken}
 
 none-by : {A B : Type 0} (f : A → B) (o : Option A) → option_map f o ≡ None → o ≡ None
 none-by f None is = refl

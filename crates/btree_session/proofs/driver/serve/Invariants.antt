@@ -1,6 +1,6 @@
 use Rattle.btree_session.specs.Script.{input_of, output_of}
 use Rattle.btree_session.proofs.Serving.{Progress}
-use Rattle.btree_session.proofs.drive.serve.Given as goal
+use Rattle.btree_session.proofs.driver.serve.Given as goal
 
 abbrev pub invariant-loop-number : goal.invariant-loop-number
 invariant-loop-number g l = Progress

@@ -3,7 +3,7 @@ use Rattle.std.specs.FinMap as map
 use Rattle.btree_raw.proofs.CountLemmas.{count-all, count-there}
 use Rattle.btree_raw.proofs.FetchedLemmas.{parent-there}
 use Rattle.btree_raw.proofs.NeedLemmas.{is-full, not-full}
-use Rattle.btree_raw.proofs.need.split_need.Goals as goal
+use Rattle.btree_raw.proofs.needs.split_need.Goals as goal
 
 pub node-node-requires : goal.node-node-requires
 node-node-requires g c = (c.tell_fits.ensures, count-there c.args.tree.now.nodes (map.len c.args.tree.now.nodes) c.args.start c.args.start 0 c.requires)

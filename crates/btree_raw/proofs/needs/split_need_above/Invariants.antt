@@ -1,6 +1,6 @@
 use Rattle.std.specs.FinMap as map
 use Rattle.btree_raw.proofs.Common.{levels_above, node_map, IsFull, HasParent, IsCountingSplits}
-use Rattle.btree_raw.proofs.need.split_need_above.Given as goal
+use Rattle.btree_raw.proofs.needs.split_need_above.Given as goal
 
 abbrev pub invariant-loop-above : goal.invariant-loop-above
 invariant-loop-above g l = record {

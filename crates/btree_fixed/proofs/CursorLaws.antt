@@ -29,7 +29,7 @@ use Rattle.btree_map.specs.Editing.{InsertsEntry, RefusesEntry, entry_front, pas
 use Rattle.btree_map.specs.SpanLaws.{index-within}
 use Rattle.btree_map.specs.declared.cursor.editing.EntriesMut.{EntriesMut}
 use Rattle.btree_fixed.specs.Capacity.{HoldsAll, RefusesExactlyAtPlace, TakesFew}
-use Rattle.btree_fixed.specs.CapacityLaws.{leaf-back, refused-exceeds, taken-at}
+use Rattle.btree_fixed.proofs.CapacityLaws.{leaf-back, refused-exceeds, taken-at}
 
 module _ {X : Type 0} where
   -- a list cut at a place, with an element between the parts

@@ -1,0 +1,162 @@
+"""Reads the sources for the tools that write pages: words and laws of `.antt` files with their comments, and clauses of public calls."""
+import os
+import re
+
+TOP = os.path.dirname(os.path.dirname(os.path.realpath(__file__)))
+USE = re.compile(r"\buse Rattle\.(btree_\w+)\.((?:specs|proofs)\.[\w.+]+?)(?:\.\{([^}]*)\}| as (\w+))")
+PASSED_ON = re.compile(r"^pub use Rattle\.(btree_\w+)\.((?:specs|proofs)\.[\w.+]+?)(?: as (\w+))?$", re.M)
+LAW = re.compile(r"^( *)pub ((?:[\w◌≡≤<]+-)+[\w◌≡≤<-]+) :")
+SHORTER = re.compile(r" g g' g'' s s'|\.Denot\b|(?<=Type) \d\b")
+USUAL = {
+    "cmp": "K → K → Ordering", "s": "TreeState K V", "old": "TreeState K V", "new": "TreeState K V", "a": "Address", "b": "Address",
+    "k": "K", "x": "K × V", "id": "ℕ", "place": "ℕ", "index": "ℕ", "levels": "ℕ", "value": "V", "was": "V", "is": "V", "w": "V",
+    "K": "RattleType", "V": "RattleType", "C": "RattleType", "O": "RattleType", "cause": "Cause", "MayRefuse": "Content (Node K V) → Type",
+}
+WORD = re.compile(r"^( *)(?:abbrev pub|pub record|pub data) (\S+) (.*)$")
+
+
+def read(path):
+    with open(f"{TOP}/{path}", encoding="utf-8") as file:
+        return file.read()
+
+
+def write(path, text):
+    with open(f"{TOP}/{path}", "w", encoding="utf-8") as file:
+        file.write(text)
+
+
+def is_file(path):
+    return os.path.isfile(f"{TOP}/{path}")
+
+
+def crates():
+    """The names of crates.txt, in its order."""
+    return [line.split(":")[0] for line in read("crates.txt").splitlines() if line and line[0] != "#"]
+
+
+def files_below(folder, ending):
+    """The files below a folder, by their path in the repository, those of a folder after the file with its name."""
+    found = [os.path.relpath(os.path.join(at, name), TOP) for at, _, names in os.walk(f"{TOP}/{folder}") for name in names if name.endswith(ending)]
+    return sorted(found, key=lambda it: it.removesuffix(ending).split("/"))
+
+
+def listed_files(folder):
+    """The files of a folder of specs or proofs, by their path, in the order of its `Lib.antt`."""
+    if not is_file(f"{folder}/Lib.antt"):
+        return []
+    names = re.findall(r"^(?:pub )?mod (\w+)", read(f"{folder}/Lib.antt"), re.M)
+    return [it for name in names for it in (f"{folder}/{name}.antt", *files_below(f"{folder}/{name}", ".antt")) if is_file(it)]
+
+
+def passed_on():
+    """The name under which `btree_slab` passes a file on, by the crate and the file."""
+    found = PASSED_ON.findall(read("crates/btree_slab/specs/Lib.antt"))
+    return {(crate, module): name or module.split(".")[-1] for crate, module, name in found}
+
+
+def comment_above(lines, at):
+    """The comment right above a line, as one text; a heading of a section is none."""
+    words = []
+    while at > 0 and lines[at - 1].strip().startswith("--") and not lines[at - 1].strip().startswith("-- --"):
+        at -= 1
+        words.insert(0, lines[at].strip().lstrip("-").strip())
+    return " ".join(words)
+
+
+def head(path):
+    """The comment with which a file begins, as one text."""
+    words = []
+    for line in read(path).splitlines():
+        if not line.startswith("--"):
+            break
+        words.append(line.lstrip("-").strip())
+    return " ".join(words)
+
+
+def statement(lines, at):
+    """The statement of the law that begins at a line, on one line."""
+    indent = len(lines[at]) - len(lines[at].lstrip())
+    words, name = [lines[at].split(" : ", 1)[1]], lines[at].split()[1]
+    for line in lines[at + 1 :]:
+        if not line.strip() or len(line) - len(line.lstrip()) <= indent or line.strip().startswith(f"{name} "):
+            break
+        words.append(line.strip())
+    return " ".join(words)
+
+
+def explicit(text):
+    """A list of parameters, or a type, without what is in braces."""
+    kept, depth = "", 0
+    for sign in text:
+        depth += sign == "{"
+        kept += "" if depth else sign
+        depth -= sign == "}"
+    parts = [it for it in re.sub(r"\s+", " ", kept).strip().split(" → ") if it.strip()]
+    return " → ".join(it.strip().removeprefix("→ ") for it in parts).replace(" )", ")").replace("(Unit)", "Unit")
+
+
+def usual(binder):
+    """A list of parameters with one type, without the type if it is the usual one of these names."""
+    names, of = binder.group(1), binder.group(2)
+    return names if all(USUAL.get(name) == of for name in names.split()) else binder.group()
+
+
+def words_of(path):
+    """The words that a file of specs defines: for each its signature without implicit arguments, and its comment."""
+    lines, modules, found = read(path).splitlines(), [], {}
+    for at, line in enumerate(lines):
+        indent = len(line) - len(line.lstrip())
+        if line.strip() and not line.strip().startswith("--"):
+            modules = [it for it in modules if it[0] < indent]
+        if line.strip().startswith("module _"):
+            text, to = line.strip(), at
+            while not text.endswith("where"):
+                to += 1
+                text += " " + lines[to].strip()
+            modules.append((indent, explicit(text.removeprefix("module _").removesuffix("where"))))
+            continue
+        word = WORD.match(line)
+        if not word:
+            continue
+        text = word.group(3)
+        for more in lines[at + 1 :]:
+            deep = len(more) - len(more.lstrip()) > indent
+            if not deep or text.endswith(" where") or not (more.strip()[0] in "(→{:" or text[-1] in "→:"):
+                break
+            text += " " + more.strip()
+        text = text.removesuffix(" where")
+        own, _, of = text.rpartition(": ") if line.strip().startswith("pub ") else text.partition(": ")
+        given = " ".join(it for it in (*(it[1] for it in modules), explicit(own)) if it)
+        given = re.sub(r"\(([\w ]+) : ((?:[^()]|\([^()]*\))*)\)", usual, SHORTER.sub("", given))
+        signature = word.group(2) + (f" {given}" if given else "") + f" : {SHORTER.sub('', explicit(of))}"
+        found[word.group(2)] = (signature, comment_above(lines, at))
+    return found
+
+
+def names_of(text):
+    """The names in a list of names that are imported: for each what it is called here, and what there."""
+    pairs = [it.strip().split(" as ") for it in text.split(",") if it.strip()]
+    return {it[-1].strip(): it[0].strip() for it in pairs}
+
+
+def imports(lines):
+    """What the `use` lines import from files of specs or proofs: for each name its crate, file and name there; a file's name has none there."""
+    found = {}
+    for line in lines:
+        for crate, module, names, alias in USE.findall(line):
+            if alias:
+                found[alias] = (crate, module, None)
+            for here, there in names_of(names).items():
+                found[here] = (crate, module, there)
+    return found
+
+
+def cited(text, known):
+    """The imported words that a text cites, each with its crate and file."""
+    found = set()
+    for name in re.findall(r"[\w◌≡.]+", text):
+        first, _, rest = name.partition(".")
+        crate, module, there = known.get(first, (None, None, None))
+        if crate:
+            found.add((crate, module, there or rest.split(".")[0]))
+    return found
