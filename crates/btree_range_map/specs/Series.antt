@@ -13,6 +13,7 @@ module _ {V : Type 0} where
   assigned_all [] map = map
   assigned_all (range ∷ ranges) map = assigned_all ranges (λ n. cond (is_within range n) (Some range.1.value) (map n))
 
+  -- these are the values after the ranges that were given
   abbrev pub AreAssigned : (old given new : List (ℕ × Span V)) → Type 0
   AreAssigned old given new = (n : ℕ) → value_at new n ≡ assigned_all given (value_at old) n
 

@@ -11,6 +11,7 @@ use Rattle.btree_laws.specs.TreeState.{IsBTree, Kept, TreeState, coded_kept, pai
 use Rattle.btree_range_map.specs.declared.span.Span.{Span}
 use Rattle.btree_range_map.specs.Ranges.{CutsOne}
 
+-- a map of ranges as contracts see it: its ranges in order, its limit and its count of refusals
 pub record RangeState (V : Type 0) : Type 0 where
   pub ranges : List (ℕ × Span V)
   pub kept : Kept

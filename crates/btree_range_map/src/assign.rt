@@ -189,7 +189,7 @@ fn place_for<V: Copy + Eq, C: NodesMut<u64, Span<V>>>(
     }
 }
 
-// Gives the numbers from `start` up to `span.end`, which are some, a value.
+/// Gives the numbers from `start` up to `span.end` a value. There is at least one.
 pub(crate) fn assign<V: Copy + Eq, C: NodesMut<u64, Span<V>>>(
     map: &mut BTreeMap<u64, Span<V>, C>,
     start: u64,

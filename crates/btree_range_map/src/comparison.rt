@@ -12,7 +12,7 @@ use std::alloc::AllocError;
 
 impl<V: Copy + Eq, C: NodesMut<u64, Span<V>>> RangeMap<V, C> {
     /// Returns whether two maps, which may have different stores, give each number the same value. It compares each range once, up to the
-    /// first that differs, and allocates no memory.
+    /// first that differs.
     pub fn same_values<D: NodesMut<u64, Span<V>>>(&self, other: &RangeMap<V, D>) -> bool
         ensures ranges { result ≡ ranges_eq V.eq self.now.ranges other.now.ranges }
         ensures values { IsTrue result ↔ ((n : ℕ) →

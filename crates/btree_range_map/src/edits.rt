@@ -12,7 +12,7 @@ use btree_item::{Address, Item, Refused};
 use btree_map::BTreeMap;
 use btree_node::NodesMut;
 
-// Returns the range that a number is in.
+/// Returns the range that a number is in.
 pub(crate) fn range_around<V: Copy + Eq, C: NodesMut<u64, Span<V>>>(
     map: &BTreeMap<u64, Span<V>, C>,
     number: u64,
@@ -38,7 +38,7 @@ pub(crate) fn range_around<V: Copy + Eq, C: NodesMut<u64, Span<V>>>(
     None
 }
 
-// Removes the range at an address, and returns the address of the one after it, if there is one.
+/// Removes the range at an address, and returns the address of the one after it, if there is one.
 pub(crate) fn take_range<V: Copy + Eq, C: NodesMut<u64, Span<V>>>(
     map: &mut BTreeMap<u64, Span<V>, C>,
     at: Address,
@@ -53,7 +53,7 @@ pub(crate) fn take_range<V: Copy + Eq, C: NodesMut<u64, Span<V>>>(
     map.normalize(after)
 }
 
-// Takes the numbers from `start` up to `end` out of the ranges from an address on. It needs no new node.
+// Removes the numbers from `start` up to `end` from the ranges from an address on. It needs no new node.
 fn clear_from<V: Copy + Eq, C: NodesMut<u64, Span<V>>>(
     map: &mut BTreeMap<u64, Span<V>, C>,
     at: Option<Address>,
@@ -79,7 +79,7 @@ fn clear_from<V: Copy + Eq, C: NodesMut<u64, Span<V>>>(
     }
 }
 
-// Takes the numbers from `start` up to `end` out of the range before a gap, which has numbers on both sides of them. Its right part is
+// Removes the numbers from `start` up to `end` from the range before a gap, which has numbers on both sides of them. Its right part is
 // added first, so that nothing has changed if that is refused.
 fn cut<V: Copy + Eq, C: NodesMut<u64, Span<V>>>(
     map: &mut BTreeMap<u64, Span<V>, C>,
@@ -110,7 +110,7 @@ fn cut<V: Copy + Eq, C: NodesMut<u64, Span<V>>>(
     }
 }
 
-// Takes the numbers from `start` up to `end` out, which are some.
+/// Removes the numbers from `start` up to `end`. There is at least one.
 pub(crate) fn subtract<V: Copy + Eq, C: NodesMut<u64, Span<V>>>(
     map: &mut BTreeMap<u64, Span<V>, C>,
     start: u64,

@@ -10,7 +10,7 @@ use btree_node::NodesMut;
 use std::iter::Iterator;
 
 impl<V: Copy + Eq, C: NodesMut<u64, Span<V>>> RangeMap<V, C> {
-    /// Returns the value of a number, or `None`. It makes at most six comparisons at each level, and one more.
+    /// Returns the value of a number, or `None`.
     pub fn get(&self, number: u64) -> Option<V>
         ensures { result ≡ value_at self.now.ranges number }
     {
@@ -18,7 +18,7 @@ impl<V: Copy + Eq, C: NodesMut<u64, Span<V>>> RangeMap<V, C> {
         Some(span.value)
     }
 
-    /// Returns the range that a number is in, or `None`. It makes at most six comparisons at each level, and one more.
+    /// Returns the range that a number is in, or `None`.
     #[tactic(auto, using(crate::proofs::QueryLemmas::queries))]
     pub fn get_range(&self, number: u64) -> Option<(u64, Span<V>)>
         ensures around { IfSome result (IsRangeAround self.now.ranges number) }
@@ -28,7 +28,7 @@ impl<V: Copy + Eq, C: NodesMut<u64, Span<V>>> RangeMap<V, C> {
         range_around(&self.map, number)
     }
 
-    /// Returns whether a number has a value. It makes at most six comparisons at each level, and one more.
+    /// Returns whether a number has a value.
     pub fn contains(&self, number: u64) -> bool
         ensures { result ≡ is_some (value_at self.now.ranges number) }
     {
@@ -62,7 +62,7 @@ impl<V: Copy + Eq, C: NodesMut<u64, Span<V>>> RangeMap<V, C> {
     }
 
     /// Returns whether a number from `start` up to `end`, which is not one of them, has a value. There is none if `start` is at least `end`.
-    /// It searches twice, and allocates no memory.
+    /// It searches twice.
     #[tactic(auto, using(crate::specs::CallerLaws::range_laws))]
     pub fn overlaps(&self, start: u64, end: u64) -> bool
         ensures some { IsTrue result → Overlaps self.now.ranges start end }

@@ -8,7 +8,7 @@ use btree_item::{Address, Item, Refused};
 use btree_map::BTreeMap;
 use btree_node::NodesMut;
 
-// The refusal of a call with these numbers and this value.
+/// The refusal of a call with these numbers and this value.
 pub(crate) fn refused_as<V: Copy + Eq>(
     refused: Refused<u64, Span<V>>,
     start: u64,
@@ -24,8 +24,8 @@ pub(crate) fn refused_as<V: Copy + Eq>(
     }
 }
 
-// Gives the numbers from `start` up to `span.end` a value inside the range before an address, which goes on past them on both sides with
-// the value `last.value`. Two ranges are added. If the second is refused, the first is removed again.
+/// Gives the numbers from `start` up to `span.end` a value inside the range before an address, which goes on past them on both sides with
+/// the value `last.value`. Two ranges are added. If the second is refused, the first is removed again.
 pub(crate) fn split<V: Copy + Eq, C: NodesMut<u64, Span<V>>>(
     map: &mut BTreeMap<u64, Span<V>, C>,
     at: Address,
