@@ -1,6 +1,9 @@
 -- What callers conclude: from navigation, where the end of a map is, in the words of insertions there; and what a key or another query finds
--- in a list after its value was written or its pair inserted.
-use Rattle.std.proofs.Common.{◌≡◌, ◌∙◌, ℕ, zero, suc, Bool, true, false, cond, List, [], ◌∷◌, Option, Some, None, IfSome, is_some, length, option_map, drop, if◌then◌else◌, refl, sym, ap}
+-- in a list after its value was written or its pair inserted; and that a range has at most as many pairs as the map.
+use Rattle.std.proofs.Common.{◌≡◌, ◌∙◌, ◌≤◌, ◌+◌, ℕ, zero, suc, Bool, true, false, cond, not, List, [], ◌∷◌, Option, Some, None, IfSome, is_some, length, option_map, drop, if◌then◌else◌, refl, sym, ap, arith}
+use Rattle.std.proofs.lemmas.List.Filters.{length-filter_both}
+use Rattle.std.specs.BTreeMap.Range.{entries_between, range_contains}
+use Rattle.std.specs.declared.ops.Bound.{Bound}
 use Rattle.std.specs.List.{insert}
 use Rattle.std.specs.Map.{lookup_entry, set_value}
 use Rattle.std.specs.Ordering.{is_eq}
@@ -60,4 +63,10 @@ module _ {K Q V : Type 0} (cmp : K → Q → Ordering) (k : Q) where
       let put : inserted ord x w xs ≡ there = ap (λ o. if is_some o then with_value ord x w xs else there) absent in
       ap (found_value cmp k) put ∙ put-in (λ q. is_eq (cmp q k)) xs (before ord x xs) (x, w) (ap is_eq same) none
 
-pub ruleset map_laws = (last-pair, found-written, found-inserted)
+-- a range has at most as many pairs as the map
+pub range-length : {K V : Type 0} (cmp : K → K → Ordering) (low high : Bound K) (xs : List (K × V)) → length (entries_between cmp low high xs) ≤ length xs
+range-length cmp low high xs =
+    let both = length-filter_both (λ x. range_contains cmp low high x.0) (λ x. not (range_contains cmp low high x.0)) (λ x. refl) xs in
+    omega (arith, both)
+
+pub ruleset map_laws = (last-pair, found-written, found-inserted, range-length)
