@@ -1,5 +1,5 @@
-use Rattle.std.proofs.Common.{◌∙◌, ◌≡◌, ℕ}
-use Rattle.btree_range_map.specs.declared.span.Span.{Span}
+use Rattle.std.proofs.Common.{◌∙◌, ◌≡◌, Some, sym, subst}
+use Rattle.btree_range_map.specs.Series.{GoesThrough}
 use Rattle.btree_range_map.proofs.SeriesLemmas.{assigns-more, assigns-none, counts-last, grows-more, grows-same, refused-ranges}
 use Rattle.btree_range_map.proofs.map.RangeMap.extend.Goals as goal
 
@@ -28,3 +28,14 @@ pub returns-in-Err-clause-cause : goal.returns-in-Err-clause-cause
 returns-in-Err-clause-cause g c =
     let given = c.in-Err.ensures.returned in
     rw (given.0, given.1) (counts-last c.args.self.now c.loop-start.self c.insert.new.self _ _ _ c.loop-start.invariant.1 c.in-Err.ensures.cause)
+
+pub returns-in-Err-clause-stopped : goal.returns-in-Err-clause-stopped
+returns-in-Err-clause-stopped g c =
+    let l = c.loop-start in
+    let given = c.in-Err.ensures.returned in
+    let same : Some (c.in-Err.refused.key, c.in-Err.refused.value) ≡ Some (c.in-Some.start, c.in-Some.span) =
+    λ i. Some (given.0 i, record { end = given.1 i; value = given.2 i }) in
+    subst (λ o. GoesThrough g.I.Iterator.next_gives c.args.self.now c.args.source.now o c.insert.new.self c.next.new.self) (sym same)
+    (l.invariant.3 (Some (c.in-Some.start, c.in-Some.span)) c.insert.new.self c.next.new.self
+    (assigns-none g.I.Iterator.next_gives l.self c.insert.new.self l.source c.next.new.self (Some (c.in-Some.start, c.in-Some.span)) c.in-Some.ensures.steps
+    (refused-ranges l.self c.insert.new.self _ _ _ c.in-Err.ensures.cause)))
