@@ -1,17 +1,6 @@
 -- Ranges that one range takes in, step by step.
-use Rattle.std.proofs.Common.{◌≡◌, ◌≤◌, ◌<◌, ◌∙◌, ℕ, suc, cond, List, length, set, slice_get, Some, None, refl, sym, ap, subst, arith}
-use Rattle.std.proofs.lemmas.List.{length-set}
-use Rattle.std.proofs.lemmas.List.Edits.{length-remove}
-use Rattle.std.proofs.lemmas.Option.{slice_get_within}
-use Rattle.std.specs.Ordering.{nat_cmp}
-use Rattle.btree_item.specs.Address.{Address}
-use Rattle.btree_laws.specs.TreeState.{TreeState, pairs_of}
-use Rattle.btree_find.specs.Fits.{ReplacesAt}
-use Rattle.btree_ext.specs.Exchange.{IsExchanged}
-use Rattle.btree_range_map.specs.declared.span.Span.{Span}
-use Rattle.btree_range_map.specs.Places.{EndsBy, IsApart}
-use Rattle.btree_range_map.specs.Ranges.{AreRuns, is_between, value_at}
-use Rattle.btree_range_map.specs.Steps.{Absorbs, Assigns, CanAbsorb, Overlaps, TakesRange}
+use Rattle.btree_range_map.proofs.Common.{◌≡◌, ◌≤◌, ◌<◌, ◌∙◌, ℕ, suc, cond, List, length, set, slice_get, Some, None, refl, sym, ap, subst, arith, length-set, length-remove, slice_get_within, nat_cmp, Address, TreeState, pairs_of, ReplacesAt, IsExchanged, Span, EndsBy, IsApart, AreRuns, is_between, value_at, Assigns, CanAbsorb, Overlaps}
+use Rattle.btree_range_map.specs.Steps.{Absorbs, TakesRange}
 use Rattle.btree_range_map.proofs.AssignLemmas.{absorb-last, absorb-more, absorb-runs, over}
 use Rattle.btree_range_map.proofs.KeptLemmas.{kept-item}
 use Rattle.btree_range_map.proofs.LimitLemmas.{grows-not}

@@ -1,20 +1,6 @@
 -- A removal of numbers from the ranges from a place on, step by step.
-use Rattle.std.proofs.Common.{◌≡◌, ◌≤◌, ◌<◌, ◌∙◌, ℕ, false, List, length, set, slice_get, Option, Some, None, refl, sym, ap, subst, arith}
-use Rattle.std.specs.List.{remove}
-use Rattle.std.specs.Ordering.{nat_cmp}
-use Rattle.std.proofs.lemmas.List.{length-set}
-use Rattle.std.proofs.lemmas.List.Edits.{length-remove}
-use Rattle.std.proofs.lemmas.Option.{same_Some, slice_get_within}
-use Rattle.btree_item.specs.Pairs.{KeyFits}
-use Rattle.btree_item.specs.Address.{Address}
-use Rattle.btree_laws.specs.TreeState.{TreeState, item_of, pairs_of}
+use Rattle.btree_range_map.proofs.Common.{◌≡◌, ◌≤◌, ◌<◌, ◌∙◌, ℕ, false, List, length, set, slice_get, Option, Some, None, refl, sym, ap, subst, arith, remove, nat_cmp, length-set, length-remove, same_Some, slice_get_within, KeyFits, Address, TreeState, item_of, pairs_of, ReplacesAt, HasPlace, IsNormalized, IsExchanged, Span, EndsBy, StartsFrom, AreRuns, is_between, is_within, value_at}
 use Rattle.btree_find.specs.Answers.{IsFoundAt}
-use Rattle.btree_find.specs.Fits.{ReplacesAt}
-use Rattle.btree_find.specs.Navigation.{HasPlace, IsNormalized}
-use Rattle.btree_ext.specs.Exchange.{IsExchanged}
-use Rattle.btree_range_map.specs.declared.span.Span.{Span}
-use Rattle.btree_range_map.specs.Places.{EndsBy, StartsFrom}
-use Rattle.btree_range_map.specs.Ranges.{AreRuns, is_between, is_within, value_at}
 use Rattle.btree_range_map.specs.Steps.{CanClear, Clears, TakesRange}
 use Rattle.btree_range_map.proofs.LimitLemmas.{grows-not}
 use Rattle.btree_range_map.proofs.ListLemmas.{get-removed, get-set, get-set-other}

@@ -1,21 +1,7 @@
 -- A range that is cut in two, and one that is shortened at its end.
-use Rattle.std.proofs.Common.{◌≡◌, ◌≤◌, ◌<◌, ◌∙◌, ℕ, suc, Bool, true, false, cond, List, length, set, slice_get, Option, Some, None, refl, sym, ap, subst, arith}
-use Rattle.std.specs.List.{insert}
-use Rattle.std.proofs.lemmas.List.{length-set}
-use Rattle.std.proofs.lemmas.Option.{same_Some, slice_get_within}
-use Rattle.std.specs.Ordering.{nat_cmp}
-use Rattle.btree_item.specs.Pairs.{KeyFits}
-use Rattle.btree_item.specs.Address.{Address}
-use Rattle.btree_laws.specs.TreeState.{TreeState, IsPlaceIn, item_of, pairs_of}
+use Rattle.btree_range_map.proofs.Common.{◌≡◌, ◌≤◌, ◌<◌, ◌∙◌, ℕ, suc, Bool, true, false, cond, List, length, set, slice_get, Option, Some, None, refl, sym, ap, subst, arith, insert, length-set, same_Some, slice_get_within, nat_cmp, KeyFits, Address, TreeState, item_of, pairs_of, FitsAt, HasPlace, IsItemAddress, IsItemAt, IsNormalized, IsPrevious, value-list, IsValueExchanged, InsertsAt, Span, EndsBy, StartsFrom, AreRuns, is_between, is_within, value_at}
+use Rattle.btree_laws.specs.TreeState.{IsPlaceIn}
 use Rattle.btree_find.specs.Answers.{IsGapAt}
-use Rattle.btree_find.specs.Fits.{FitsAt}
-use Rattle.btree_find.specs.Navigation.{HasPlace, IsItemAddress, IsItemAt, IsNormalized, IsPrevious}
-use Rattle.btree_ext.specs.CallerLaws.{value-list}
-use Rattle.btree_ext.specs.Exchange.{IsValueExchanged}
-use Rattle.btree_ext.specs.InsertAt.{InsertsAt}
-use Rattle.btree_range_map.specs.declared.span.Span.{Span}
-use Rattle.btree_range_map.specs.Places.{EndsBy, StartsFrom}
-use Rattle.btree_range_map.specs.Ranges.{AreRuns, is_between, is_within, value_at}
 use Rattle.btree_range_map.specs.Steps.{CanClear, CanCut, Clears}
 use Rattle.btree_range_map.proofs.LimitLemmas.{put-limit}
 use Rattle.btree_range_map.proofs.ListLemmas.{get-inserted-before, get-set, get-set-other, set-insert}

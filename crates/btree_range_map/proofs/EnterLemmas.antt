@@ -1,16 +1,9 @@
 -- Where numbers that are given a value begin: what the range before them asks for.
-use Rattle.std.proofs.Common.{◌≡◌, ◌≤◌, ◌<◌, ◌∙◌, ℕ, suc, max, slice_get, Some, None, sym, ap, subst, arith, ◌⊎◌, inl, inr}
-use Rattle.std.proofs.lemmas.Option.{same_Some}
-use Rattle.btree_item.specs.Address.{Address}
-use Rattle.btree_laws.specs.TreeState.{TreeState, item_of, pairs_of}
-use Rattle.btree_find.specs.Navigation.{HasPlace, IsItemAddress, IsPrevious}
-use Rattle.btree_range_map.specs.declared.span.Span.{Span}
-use Rattle.btree_range_map.specs.Ranges.{AreRuns, CutsOne, JoinsNone, value_at}
-use Rattle.btree_range_map.specs.Steps.{Assigns, CanAbsorb, CanPut, CanPutOver, CanSplit, IsPlaceFor}
+use Rattle.btree_range_map.proofs.Common.{◌≡◌, ◌≤◌, ◌<◌, ◌∙◌, ℕ, suc, max, slice_get, Some, None, sym, ap, subst, arith, ◌⊎◌, inl, inr, same_Some, Address, TreeState, item_of, pairs_of, HasPlace, IsItemAddress, IsPrevious, Span, AreRuns, CutsOne, JoinsNone, value_at, Assigns, CanAbsorb, between-from}
+use Rattle.btree_range_map.specs.Steps.{CanPut, CanPutOver, CanSplit, IsPlaceFor}
 use Rattle.btree_range_map.proofs.AssignLemmas.{joins-none}
 use Rattle.btree_range_map.proofs.PlaceLemmas.{before-none, before-some, previous-place, read-range}
 use Rattle.btree_range_map.proofs.PutLemmas.{assigns-wider}
-use Rattle.btree_range_map.specs.CallerLaws.{between-from}
 use Rattle.btree_range_map.proofs.RunLemmas.{next-from, run-at, value-here}
 
 module _ {V : Type 0} (s : TreeState ℕ (Span V)) (at : Address) (start : ℕ) (span : Span V) (here : IsPlaceFor s start at) (runs : AreRuns (pairs_of s)) (some : start < span.end) where

@@ -1,21 +1,13 @@
 -- Addresses that stay while the range at another place is replaced, or an insertion is refused.
-use Rattle.std.proofs.Common.{◌≡◌, ℕ, ◌≢◌, refl, sym, subst}
-use Rattle.std.specs.Ordering.{nat_cmp}
-use Rattle.std.specs.Prelude.{IsSome}
+use Rattle.btree_range_map.proofs.Common.{◌≡◌, ℕ, refl, sym, subst, nat_cmp, IsSome, Address, Cause, Store, Count, TreeState, HasPlace, IsItemAddress, IsExchanged, Span}
+use Rattle.std.proofs.Common.{◌≢◌}
 use Rattle.std.proofs.lemmas.Cmp.{nat_cmp_total}
-use Rattle.btree_item.specs.Address.{Address}
-use Rattle.btree_item.specs.declared.refused.Cause.{Cause}
-use Rattle.btree_item.specs.declared.refused.Cause.TheVariants.{Store, Count}
 use Rattle.btree_node.specs.declared.node.Node.{Node}
 use Rattle.btree_store.specs.Content.{Content}
-use Rattle.btree_laws.specs.TreeState.{TreeState}
-use Rattle.btree_find.specs.Navigation.{HasPlace, IsItemAddress}
 use Rattle.btree_find.proofs.FitsLemmas.{item-occupied, occupied-item}
 use Rattle.btree_find.proofs.PlaceLemmas.{has-place, item-here}
 use Rattle.btree_raw.specs.Insertion.{IsRefused}
-use Rattle.btree_ext.specs.Exchange.{IsExchanged}
 use Rattle.btree_ext.specs.InsertAt.{IsRefusedAt}
-use Rattle.btree_range_map.specs.declared.span.Span.{Span}
 
 -- ---- the range at an address was replaced
 module _ {V : Type 0} (s new : TreeState ℕ (Span V)) (a : Address) (x : ℕ × Span V) (is : IsExchanged s new a nat_cmp x) where

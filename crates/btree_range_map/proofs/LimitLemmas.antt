@@ -1,14 +1,7 @@
 -- How many ranges there are: no more than there may be, and fewer before one is added.
-use Rattle.std.proofs.Common.{◌≡◌, ◌≤◌, ◌∙◌, ℕ, length, ap, arith}
-use Rattle.std.specs.List.{insert}
-use Rattle.std.specs.Ordering.{nat_cmp}
+use Rattle.btree_range_map.proofs.Common.{◌≡◌, ◌≤◌, ◌∙◌, ℕ, length, ap, arith, insert, nat_cmp, Address, TreeState, pairs_of, HasPlace, InsertsAt, Span, GrowsWithinLimit}
 use Rattle.std.proofs.lemmas.List.Edits.{length-insert}
-use Rattle.btree_item.specs.Address.{Address}
-use Rattle.btree_laws.specs.TreeState.{TreeState, pairs_of}
-use Rattle.btree_find.specs.Navigation.{HasPlace}
-use Rattle.btree_ext.specs.InsertAt.{InsertsAt}
-use Rattle.btree_range_map.specs.declared.span.Span.{Span}
-use Rattle.btree_range_map.specs.State.{GrowsWithinLimit, ranges_of}
+use Rattle.btree_range_map.specs.State.{ranges_of}
 
 module _ {V : Type 0} where
   -- a step that adds no range

@@ -1,23 +1,16 @@
 -- From what the calls of the map say of addresses to places in the list of ranges.
-use Rattle.std.proofs.Common.{◌≡◌, ◌≤◌, ◌<◌, ◌∙◌, ℕ, zero, suc, Bool, true, false, List, length, slice_get, Option, Some, None, Result, Ok, Err, refl, sym, ap, subst, arith, ◌⊎◌, inr}
+use Rattle.btree_range_map.proofs.Common.{◌≡◌, ◌≤◌, ◌<◌, ◌∙◌, ℕ, zero, suc, Bool, true, false, List, length, slice_get, Option, Some, None, refl, sym, ap, subst, arith, ◌⊎◌, inr, nat_cmp, IsSome, lt-ltb, same_Some, slice_get_within, KeyFits, Address, TreeState, item_of, pairs_of, HasPlace, IsItemAddress, IsItemAt, IsNormalized, IsPrevious, Span, EndsBy, IsRangeAround, StartsFrom, AreRuns, CutsOne, value_at, between-from}
+use Rattle.std.proofs.Common.{Result, Ok, Err}
 use Rattle.std.specs.declared.cmp.Ordering.TheVariants.{Equal, Less}
-use Rattle.std.specs.Ordering.{nat_cmp}
-use Rattle.std.specs.Prelude.{IfErr, IfSome, IsSome, OnErr}
-use Rattle.std.proofs.lemmas.Bool.{lt-ltb}
+use Rattle.std.specs.Prelude.{IfErr, IfSome, OnErr}
 use Rattle.std.proofs.lemmas.Cmp.{ranked}
-use Rattle.std.proofs.lemmas.Option.{same_Some, slice_get_within}
-use Rattle.btree_item.specs.Pairs.{KeyFits}
-use Rattle.btree_item.specs.Address.{Address}
 use Rattle.btree_laws.specs.Place.{IsOccupied}
-use Rattle.btree_laws.specs.TreeState.{TreeState, item_of, node_map, pairs_of}
+use Rattle.btree_laws.specs.TreeState.{node_map}
 use Rattle.btree_find.specs.Answers.{IsFoundAt, IsGapAt}
 use Rattle.btree_find.specs.CallerLaws.{pair-there}
-use Rattle.btree_find.specs.Navigation.{HasPlace, IsItemAddress, IsItemAt, IsItemBefore, IsNext, IsNormalized, IsPrevious}
-use Rattle.btree_range_map.specs.declared.span.Span.{Span}
-use Rattle.btree_range_map.specs.Places.{EndsBy, IsRangeAround, StartsFrom}
+use Rattle.btree_find.specs.Navigation.{IsItemBefore, IsNext}
 use Rattle.btree_range_map.specs.Steps.{IsPlaceFor}
-use Rattle.btree_range_map.specs.Ranges.{AreRuns, CutsOne, TellsSame, value_at}
-use Rattle.btree_range_map.specs.CallerLaws.{between-from}
+use Rattle.btree_range_map.specs.Ranges.{TellsSame}
 use Rattle.btree_range_map.proofs.RunLemmas.{run-at, value-here, value-none}
 
 pub less-from : (x y : ℕ) → x < y → nat_cmp x y ≡ Less

@@ -1,36 +1,20 @@
 -- A range that is put at an address: between others, or over parts of those beside it, which are given back if it is
 -- refused.
-use Rattle.std.proofs.Common.{◌≡◌, ◌≤◌, ◌<◌, ◌∙◌, ℕ, suc, List, length, set, slice_get, Some, refl, sym, ap, subst, arith, ◌⊎◌, inl, inr}
-use Rattle.std.proofs.lemmas.Bool.{cases_lt, cases_order}
-use Rattle.std.proofs.lemmas.List.{length-set}
-use Rattle.std.proofs.lemmas.Option.{same_Some, slice_get_within}
-use Rattle.std.specs.List.{insert}
-use Rattle.std.specs.Ordering.{nat_cmp}
-use Rattle.btree_item.specs.Address.{Address}
-use Rattle.btree_item.specs.declared.refused.Cause.{Cause}
-use Rattle.btree_item.specs.declared.refused.Cause.TheVariants.{Store, Count}
+use Rattle.btree_range_map.proofs.Common.{◌≡◌, ◌≤◌, ◌<◌, ◌∙◌, ℕ, suc, List, length, set, slice_get, Some, refl, sym, ap, subst, arith, ◌⊎◌, inl, inr, cases_lt, cases_order, length-set, same_Some, slice_get_within, insert, nat_cmp, Address, Cause, Store, Count, TreeState, pairs_of, FitsAt, ReplacesAt, HasPlace, IsItemAddress, value-list, IsExchanged, IsValueExchanged, InsertsAt, Span, IsApart, AreRuns, IsAssigned, JoinsNone, value_at, Assigns, CanAbsorb, Overlaps, between-from}
 use Rattle.btree_node.specs.declared.node.Node.{Node}
 use Rattle.btree_store.specs.Content.{Content}
-use Rattle.btree_laws.specs.TreeState.{TreeState, pairs_of, refused_once}
-use Rattle.btree_find.specs.Fits.{FitsAt, ReplacesAt}
-use Rattle.btree_find.specs.Navigation.{HasPlace, IsItemAddress}
-use Rattle.btree_ext.specs.CallerLaws.{value-list}
-use Rattle.btree_ext.specs.Exchange.{IsExchanged, IsValueExchanged}
+use Rattle.btree_laws.specs.TreeState.{refused_once}
 use Rattle.btree_ext.specs.Insert.{CountsRefusal}
-use Rattle.btree_ext.specs.InsertAt.{InsertsAt, IsRefusedAt}
-use Rattle.btree_range_map.specs.declared.span.Span.{Span}
-use Rattle.btree_range_map.specs.Places.{IsApart}
-use Rattle.btree_range_map.specs.Ranges.{AreRuns, IsAssigned, JoinsNone, value_at}
+use Rattle.btree_ext.specs.InsertAt.{IsRefusedAt}
 use Rattle.btree_range_map.specs.State.{ranges_of}
 use Rattle.btree_range_map.specs.State as state
-use Rattle.btree_range_map.specs.Steps.{Absorbs, Assigns, CanAbsorb, CanPut, CanPutOver, IsRefusedIn, KeepsBefore, Overlaps}
+use Rattle.btree_range_map.specs.Steps.{Absorbs, CanPut, CanPutOver, IsRefusedIn, KeepsBefore}
 use Rattle.btree_range_map.proofs.AbsorbLemmas.{span_to}
 use Rattle.btree_range_map.proofs.AssignLemmas.{assigned-after, assigned-wider, joins-none, put-assigned, put-runs}
 use Rattle.btree_range_map.proofs.KeptLemmas.{kept-item, kept-here, kept-place, refused-keeps}
 use Rattle.btree_range_map.proofs.LimitLemmas.{put-limit}
 use Rattle.btree_range_map.proofs.ListLemmas.{get-set, get-set-other, set-back}
 use Rattle.btree_range_map.proofs.PlaceLemmas.{less-from}
-use Rattle.btree_range_map.specs.CallerLaws.{between-from}
 use Rattle.btree_range_map.proofs.RunLemmas.{run-at, value-here}
 use Rattle.btree_range_map.proofs.StepLemmas.{IsSameOutside, clear-part, left-part, shorter-runs}
 use Rattle.btree_range_map.proofs.TrimLemmas.{trim-apart, trim-back, trim-back-fits, trim-item, trim-length, trim-pairs, trim-runs, trim-same}

@@ -1,13 +1,8 @@
 -- The range around a number, and the first and the last one.
-use Rattle.std.proofs.Common.{◌≡◌, ◌≤◌, ◌<◌, ◌∙◌, ◌-◌, ℕ, suc, true, false, List, [], ◌∷◌, length, slice_get, Option, None, Some, refl, sym, ap, subst, arith, ◌⊎◌, inl, inr, IfSome}
-use Rattle.std.specs.Prelude.{IsSome}
-use Rattle.std.proofs.lemmas.Bool.{cases_Bool, cases_lt}
-use Rattle.std.proofs.lemmas.Option.{same_Some}
+use Rattle.btree_range_map.proofs.Common.{◌≡◌, ◌≤◌, ◌<◌, ◌∙◌, ℕ, suc, true, false, List, [], ◌∷◌, length, slice_get, Option, None, Some, refl, sym, ap, subst, arith, ◌⊎◌, inl, inr, IsSome, cases_Bool, cases_lt, same_Some, Span, between-high, IsRangeAround, AreRuns, AscendFrom, is_within, value_at}
+use Rattle.std.proofs.Common.{◌-◌, IfSome}
 use Rattle.btree_map.specs.Lists.{last_of}
-use Rattle.btree_range_map.specs.declared.span.Span.{Span}
-use Rattle.btree_range_map.specs.CallerLaws.{between-high}
-use Rattle.btree_range_map.specs.Places.{IsRangeAround}
-use Rattle.btree_range_map.specs.Ranges.{AreRuns, AscendFrom, IsMaximalRun, is_within, value_at}
+use Rattle.btree_range_map.specs.Ranges.{IsMaximalRun}
 use Rattle.btree_range_map.proofs.RangeLaws.{maximal, starts-here}
 use Rattle.btree_range_map.proofs.RunLemmas.{none-below}
 use Rattle.btree_range_map.proofs.StepLemmas.{passed}

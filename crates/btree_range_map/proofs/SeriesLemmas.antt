@@ -1,13 +1,8 @@
 -- Series of insertions, by one range more.
-use Rattle.std.proofs.Common.{◌≡◌, ◌<◌, ◌≤◌, ◌∙◌, ℕ, cond, List, [], ◌∷◌, length, Option, Some, refl, sym, ap, subst, arith, inl, inr}
-use Rattle.std.proofs.lemmas.Bool.{cases_lt}
-use Rattle.btree_item.specs.declared.refused.Cause.{Cause}
-use Rattle.btree_item.specs.declared.refused.Cause.TheVariants.{Count, Store}
+use Rattle.btree_range_map.proofs.Common.{◌≡◌, ◌<◌, ◌≤◌, ◌∙◌, ℕ, cond, List, [], ◌∷◌, length, Option, Some, refl, sym, ap, subst, arith, inl, inr, cases_lt, Cause, Count, Store, Span, CutsOne, IsAssigned, is_within, value_at, GoesThrough, GrowsWithinLimit}
 use Rattle.btree_laws.specs.TreeState.{refused_once}
-use Rattle.btree_range_map.specs.declared.span.Span.{Span}
-use Rattle.btree_range_map.specs.Ranges.{CutsOne, IsAssigned, is_within, value_at}
-use Rattle.btree_range_map.specs.Series.{GoesThrough, assigned_all}
-use Rattle.btree_range_map.specs.State.{CountsLastRefusal, GrowsWithinLimit, IsInsertRefused, IsRefused, RangeState}
+use Rattle.btree_range_map.specs.Series.{assigned_all}
+use Rattle.btree_range_map.specs.State.{CountsLastRefusal, IsInsertRefused, IsRefused, RangeState}
 
 -- ---- the values
 module _ {V S : Type 0} (steps : S → Option (ℕ × Span V) → S → Type 0) where

@@ -1,20 +1,7 @@
 -- A range that is put inside another one: two are added, or none.
-use Rattle.std.proofs.Common.{◌≡◌, ◌≤◌, ◌<◌, ◌∙◌, ℕ, suc, Bool, true, false, cond, List, length, set, slice_get, Option, Some, None, refl, sym, ap, subst, arith}
-use Rattle.std.specs.List.{insert}
-use Rattle.std.proofs.lemmas.List.{length-set}
+use Rattle.btree_range_map.proofs.Common.{◌≡◌, ◌≤◌, ◌<◌, ◌∙◌, ℕ, suc, Bool, true, false, cond, List, length, set, slice_get, Option, Some, None, refl, sym, ap, subst, arith, insert, length-set, same_Some, slice_get_within, nat_cmp, Address, TreeState, pairs_of, FitsAt, HasPlace, IsItemAddress, IsPrevious, value-list, IsValueExchanged, InsertsAt, Span, AreRuns, IsAssigned, is_between, is_within, value_at, Assigns}
 use Rattle.std.proofs.lemmas.List.Edits.{length-insert}
-use Rattle.std.proofs.lemmas.Option.{same_Some, slice_get_within}
-use Rattle.std.specs.Ordering.{nat_cmp}
-use Rattle.btree_item.specs.Address.{Address}
-use Rattle.btree_laws.specs.TreeState.{TreeState, pairs_of}
-use Rattle.btree_find.specs.Fits.{FitsAt}
-use Rattle.btree_find.specs.Navigation.{HasPlace, IsItemAddress, IsPrevious}
-use Rattle.btree_ext.specs.CallerLaws.{value-list}
-use Rattle.btree_ext.specs.Exchange.{IsValueExchanged}
-use Rattle.btree_ext.specs.InsertAt.{InsertsAt}
-use Rattle.btree_range_map.specs.declared.span.Span.{Span}
-use Rattle.btree_range_map.specs.Ranges.{AreRuns, IsAssigned, is_between, is_within, value_at}
-use Rattle.btree_range_map.specs.Steps.{Assigns, CanSplit}
+use Rattle.btree_range_map.specs.Steps.{CanSplit}
 use Rattle.btree_range_map.proofs.LimitLemmas.{put-limit}
 use Rattle.btree_range_map.proofs.ListLemmas.{get-inserted-before, get-put, get-put-below, get-set, set-insert}
 use Rattle.btree_range_map.proofs.PlaceLemmas.{less-from, previous-place}

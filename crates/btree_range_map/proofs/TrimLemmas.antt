@@ -1,17 +1,5 @@
 -- A range that overlaps the end of some numbers and then begins there, so that it is apart from them.
-use Rattle.std.proofs.Common.{◌≡◌, ◌≤◌, ◌<◌, ◌∙◌, ℕ, suc, List, length, set, slice_get, Some, refl, sym, ap, subst, arith}
-use Rattle.std.proofs.lemmas.List.{length-set}
-use Rattle.std.proofs.lemmas.Option.{same_Some, slice_get_within}
-use Rattle.std.specs.Ordering.{nat_cmp}
-use Rattle.btree_item.specs.Address.{Address}
-use Rattle.btree_laws.specs.TreeState.{TreeState, pairs_of}
-use Rattle.btree_find.specs.Fits.{ReplacesAt}
-use Rattle.btree_find.specs.Navigation.{IsItemAddress}
-use Rattle.btree_ext.specs.Exchange.{IsExchanged}
-use Rattle.btree_range_map.specs.declared.span.Span.{Span}
-use Rattle.btree_range_map.specs.Places.{IsApart}
-use Rattle.btree_range_map.specs.Ranges.{AreRuns}
-use Rattle.btree_range_map.specs.Steps.{Overlaps}
+use Rattle.btree_range_map.proofs.Common.{◌≡◌, ◌≤◌, ◌<◌, ◌∙◌, ℕ, suc, List, length, set, slice_get, Some, refl, sym, ap, subst, arith, length-set, same_Some, slice_get_within, nat_cmp, Address, TreeState, pairs_of, ReplacesAt, IsItemAddress, IsExchanged, Span, IsApart, AreRuns, Overlaps}
 use Rattle.btree_range_map.proofs.KeptLemmas.{kept-here}
 use Rattle.btree_range_map.proofs.ListLemmas.{get-set, get-set-other, set-back}
 use Rattle.btree_range_map.proofs.PlaceLemmas.{less-from}

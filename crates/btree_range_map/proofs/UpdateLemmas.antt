@@ -1,9 +1,8 @@
 -- Updates, by one range more.
-use Rattle.std.proofs.Common.{◌≡◌, ◌≤◌, ◌∙◌, ℕ, max, min, Bool, true, false, cond, List, [], ◌∷◌, Option, Some, None, refl, sym, ap, subst, arith, ◌⊎◌, inl, inr}
-use Rattle.std.proofs.lemmas.Bool.{cases_Bool, cases_lt, ltb-true}
-use Rattle.btree_range_map.specs.declared.span.Span.{Span}
-use Rattle.btree_range_map.specs.CallerLaws.{between-from, between-high, between-low, value-meeting}
-use Rattle.btree_range_map.specs.Ranges.{AreRuns, AscendFrom, IsAssigned, OverlapsNone, is_between, is_within, meets, ranges_meeting, value_at}
+use Rattle.btree_range_map.proofs.Common.{◌≡◌, ◌≤◌, ◌∙◌, ℕ, max, min, Bool, true, false, cond, List, [], ◌∷◌, Option, Some, None, refl, sym, ap, subst, arith, ◌⊎◌, inl, inr, cases_Bool, cases_lt, Span, between-from, between-high, between-low, AreRuns, AscendFrom, IsAssigned, is_between, is_within, meets, ranges_meeting, value_at}
+use Rattle.std.proofs.lemmas.Bool.{ltb-true}
+use Rattle.btree_range_map.specs.CallerLaws.{value-meeting}
+use Rattle.btree_range_map.specs.Ranges.{OverlapsNone}
 use Rattle.btree_range_map.specs.Updates.{IsFirstPart, IsReturned, IsUpdated}
 use Rattle.btree_range_map.proofs.GapLemmas.{ascend-filtered}
 use Rattle.btree_range_map.proofs.RunLemmas.{above-not-between, below-not-between, none-below}

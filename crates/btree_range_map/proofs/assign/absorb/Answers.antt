@@ -1,4 +1,4 @@
-use Rattle.std.proofs.Common.{suc}
+use Rattle.btree_range_map.proofs.Common.{suc}
 use Rattle.btree_range_map.proofs.AbsorbLemmas.{absorbing-done, absorbing-fits, absorbing-last, absorbing-more, absorbing-shorter, absorbing-some, absorbing-trimmed}
 use Rattle.btree_range_map.proofs.PlaceLemmas.{next-at}
 use Rattle.btree_range_map.proofs.TrimLemmas.{trim-fits}

@@ -1,5 +1,4 @@
-use Rattle.std.proofs.Common.{length}
-use Rattle.btree_laws.specs.TreeState.{pairs_of}
+use Rattle.btree_range_map.proofs.Common.{length, pairs_of}
 use Rattle.btree_range_map.proofs.AbsorbLemmas.{IsAbsorbing}
 use Rattle.btree_range_map.proofs.assign.absorb.Given as goal
 

@@ -1,6 +1,4 @@
-use Rattle.std.proofs.Common.{refl, arith}
-use Rattle.btree_laws.specs.TreeState.{pairs_of}
-use Rattle.btree_range_map.specs.Ranges.{JoinsNone}
+use Rattle.btree_range_map.proofs.Common.{refl, arith, pairs_of, JoinsNone}
 use Rattle.btree_range_map.proofs.EnterLemmas.{enter-apart, enter-cuts, enter-first, enter-joined, enter-joins, enter-none, enter-over}
 use Rattle.btree_range_map.proofs.PlaceLemmas.{on-error, refused-two, told-apart, told-same}
 use Rattle.btree_range_map.proofs.assign.assign.Goals as goal

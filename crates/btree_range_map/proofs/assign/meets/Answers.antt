@@ -1,6 +1,4 @@
-use Rattle.std.proofs.Common.{◌∙◌, Option, subst, sym, arith}
-use Rattle.btree_item.specs.Address.{Address}
-use Rattle.btree_find.specs.Navigation.{IsItemAt}
+use Rattle.btree_range_map.proofs.Common.{◌∙◌, Option, subst, sym, arith, Address, IsItemAt}
 use Rattle.btree_range_map.proofs.PlaceLemmas.{told-apart, told-same}
 use Rattle.btree_range_map.proofs.assign.meets.Goals as goal
 

@@ -1,5 +1,4 @@
-use Rattle.btree_laws.specs.TreeState.{pairs_of}
-use Rattle.btree_range_map.specs.Ranges.{JoinsNone}
+use Rattle.btree_range_map.proofs.Common.{pairs_of, JoinsNone}
 use Rattle.btree_range_map.proofs.PlaceLemmas.{normal-place, on-error}
 use Rattle.btree_range_map.proofs.PutLemmas.{put-absorbed, put-absorbs, put-done, put-none, put-none-over}
 use Rattle.btree_range_map.proofs.assign.put.Goals as goal

@@ -1,6 +1,4 @@
-use Rattle.std.proofs.Common.{◌≡◌, ◌∙◌, ℕ, sym, ap}
-use Rattle.std.proofs.lemmas.Option.{same_Some}
-use Rattle.btree_range_map.specs.declared.span.Span.{Span}
+use Rattle.btree_range_map.proofs.Common.{◌≡◌, ◌∙◌, ℕ, sym, ap, same_Some, Span}
 use Rattle.btree_range_map.proofs.PutLemmas.{put-done, put-fits, trimmed-back, trimmed-can, trimmed-done, trimmed-keeps, trimmed-refused}
 use Rattle.btree_range_map.proofs.TrimLemmas.{trim-apart, trim-fits}
 use Rattle.btree_range_map.proofs.assign.put_before.Goals as goal

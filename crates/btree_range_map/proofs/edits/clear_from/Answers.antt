@@ -1,4 +1,4 @@
-use Rattle.std.proofs.Common.{refl, subst, arith}
+use Rattle.btree_range_map.proofs.Common.{refl, subst, arith}
 use Rattle.btree_range_map.proofs.ClearLemmas.{IsClearing, clearing-fits, clearing-last, clearing-more, clearing-none, clearing-past, clearing-shorter}
 use Rattle.btree_range_map.proofs.edits.clear_from.Goals as goal
 

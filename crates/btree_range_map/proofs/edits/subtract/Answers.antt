@@ -1,6 +1,4 @@
-use Rattle.std.proofs.Common.{refl, arith}
-use Rattle.btree_laws.specs.TreeState.{pairs_of}
-use Rattle.btree_range_map.specs.Places.{EndsBy}
+use Rattle.btree_range_map.proofs.Common.{refl, arith, pairs_of, EndsBy}
 use Rattle.btree_range_map.proofs.ClearLemmas.{clear-found, clear-gap}
 use Rattle.btree_range_map.proofs.CutLemmas.{cut-can, shorten-can, shorten-then}
 use Rattle.btree_range_map.proofs.PlaceLemmas.{before-read, cuts-one, ends-none, ends-some}

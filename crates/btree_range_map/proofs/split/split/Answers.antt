@@ -1,4 +1,4 @@
-use Rattle.std.proofs.Common.{refl}
+use Rattle.btree_range_map.proofs.Common.{refl}
 use Rattle.btree_range_map.proofs.CutLemmas.{cut-fits}
 use Rattle.btree_range_map.proofs.SplitLemmas.{split-done, split-fits, split-some}
 use Rattle.btree_range_map.proofs.split.split.Goals as goal

@@ -1,4 +1,4 @@
-use Rattle.std.proofs.Common.{◌∙◌, sym}
+use Rattle.btree_range_map.proofs.Common.{◌∙◌, sym}
 use Rattle.btree_range_map.specs.CallerLaws.{none-meet}
 use Rattle.btree_range_map.proofs.UpdateLemmas.{first-part}
 use Rattle.btree_range_map.proofs.updates.first_part.Goals as goal

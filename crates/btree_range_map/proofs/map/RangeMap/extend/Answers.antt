@@ -1,5 +1,4 @@
-use Rattle.std.proofs.Common.{◌∙◌, ◌≡◌, Some, sym, subst}
-use Rattle.btree_range_map.specs.Series.{GoesThrough}
+use Rattle.btree_range_map.proofs.Common.{◌∙◌, ◌≡◌, Some, sym, subst, GoesThrough}
 use Rattle.btree_range_map.proofs.SeriesLemmas.{assigns-more, assigns-none, counts-last, grows-more, grows-same, refused-ranges}
 use Rattle.btree_range_map.proofs.map.RangeMap.extend.Goals as goal
 

@@ -1,7 +1,5 @@
-use Rattle.std.proofs.Common.{◌≡◌}
+use Rattle.btree_range_map.proofs.Common.{◌≡◌, GoesThrough, GrowsWithinLimit}
 use Rattle.std.specs.Iterator.{IsFinite, size}
-use Rattle.btree_range_map.specs.Series.{GoesThrough}
-use Rattle.btree_range_map.specs.State.{GrowsWithinLimit}
 use Rattle.btree_range_map.proofs.map.RangeMap.extend.Given as goal
 
 abbrev pub invariant-loop-start : goal.invariant-loop-start

@@ -1,5 +1,4 @@
-use Rattle.std.proofs.Common.{sym}
-use Rattle.btree_laws.specs.TreeState.{pairs_of}
+use Rattle.btree_range_map.proofs.Common.{sym, pairs_of}
 use Rattle.btree_range_map.proofs.PlaceLemmas.{around-value}
 use Rattle.btree_range_map.proofs.map.RangeMap.get.Goals as goal
 

@@ -1,4 +1,4 @@
-use Rattle.btree_laws.specs.TreeState.{pairs_of}
+use Rattle.btree_range_map.proofs.Common.{pairs_of}
 use Rattle.btree_range_map.proofs.QueryLemmas.{last-highest}
 use Rattle.btree_range_map.proofs.map.RangeMap.last.Goals as goal
 

@@ -1,9 +1,6 @@
-use Rattle.std.proofs.Common.{◌≡◌, ◌∙◌, ap, arith}
+use Rattle.btree_range_map.proofs.Common.{◌≡◌, ◌∙◌, ap, arith, nat_cmp, pairs_of, ranges_meeting}
 use Rattle.std.specs.BTreeMap.Range.{entries_between}
-use Rattle.std.specs.Ordering.{nat_cmp}
 use Rattle.std.specs.declared.ops.Bound.TheVariants.{Excluded, Included}
-use Rattle.btree_laws.specs.TreeState.{pairs_of}
-use Rattle.btree_range_map.specs.Ranges.{ranges_meeting}
 use Rattle.btree_range_map.proofs.MeetLemmas.{meeting-around, meeting-empty, meeting-none}
 use Rattle.btree_range_map.proofs.map.RangeMap.overlapping.Goals as goal
 use Rattle.btree_range_map.proofs.map.RangeMap.overlapping.Goals.{in-Some, in-None}

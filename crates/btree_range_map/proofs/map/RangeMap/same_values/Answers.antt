@@ -1,4 +1,4 @@
-use Rattle.btree_laws.specs.TreeState.{pairs_of}
+use Rattle.btree_range_map.proofs.Common.{pairs_of}
 use Rattle.btree_range_map.proofs.RangeLaws.{equal-values}
 use Rattle.btree_range_map.proofs.map.RangeMap.same_values.Goals as goal
 

@@ -1,4 +1,4 @@
-use Rattle.std.proofs.Common.{◌∙◌, refl, arith}
+use Rattle.btree_range_map.proofs.Common.{◌∙◌, refl, arith}
 use Rattle.btree_range_map.proofs.SeriesLemmas.{counts-last, grows-more, grows-same, refused-ranges}
 use Rattle.btree_range_map.proofs.UpdateLemmas.{updated-below, updated-end, updated-more, updated-start}
 use Rattle.btree_range_map.proofs.map.RangeMap.update.Goals as goal
@@ -14,7 +14,7 @@ loop-first-preserved g c =
     let one = c.in-Ok.ensures in (
       (omega (arith, l.invariant.0.0, part.low, part.some), omega (arith, part.high)),
       updated-more (goal.F-post g c.args.action) c.args.self.now.ranges c.args.start l.from c.args.end l.self.ranges (c.in-Some.first, c.in-Some.span)
-      l.invariant.0.0 l.invariant.1 part c.action.result c.insert.new.self.ranges c.action.ensures one.assigned,
+          l.invariant.0.0 l.invariant.1 part c.action.result c.insert.new.self.ranges c.action.ensures one.assigned,
       one.uncounted ∙ l.invariant.2,
       grows-more c.args.self.now l.self c.insert.new.self l.invariant.2 l.invariant.3 one.bounded,
     )

@@ -1,5 +1,5 @@
-use Rattle.std.proofs.Common.{◌≡◌, ◌≤◌, ◌-◌, max}
-use Rattle.btree_range_map.specs.State.{GrowsWithinLimit}
+use Rattle.btree_range_map.proofs.Common.{◌≡◌, ◌≤◌, max, GrowsWithinLimit}
+use Rattle.std.proofs.Common.{◌-◌}
 use Rattle.btree_range_map.specs.Updates.{IsUpdated}
 use Rattle.btree_range_map.proofs.map.RangeMap.update.Given as goal
 
