@@ -17,6 +17,9 @@ pub type BTreeSet<T> = generic::BTreeSet<T, SlabStore<generic::Node<T, ()>>>;
 /// A set of numbers as disjoint ranges, with its nodes in a slab, with memory from the global allocator.
 pub type RangeSet = range_set::RangeSet<SlabStore<generic::Node<u64, u64>>>;
 
+/// A map from numbers to values as disjoint ranges, with its nodes in a slab, with memory from the global allocator.
+pub type RangeMap<V> = range_map::RangeMap<V, SlabStore<generic::Node<u64, range_map::Span<V>>>>;
+
 /// The types over any store of nodes.
 pub mod generic {
     pub use btree_map::BTreeMap;
@@ -86,6 +89,11 @@ pub mod script {
 /// Sets of numbers as disjoint ranges over a map, and their iterators.
 pub mod range_set {
     pub use btree_range_set::{Gaps, IntoIter, Iter, Overlapping, RangeSet};
+}
+
+/// Maps from numbers to values as disjoint ranges over a map, and their iterators.
+pub mod range_map {
+    pub use btree_range_map::{Gaps, IntoIter, Iter, Overlapping, RangeMap, Span};
 }
 
 /// What a key may be sought by beside a key: a text or a slice, and the places beside a key, beside a first part and at the ends.

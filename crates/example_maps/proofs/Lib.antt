@@ -1,5 +1,6 @@
 mod BlockLemmas
 pub mod BookingLemmas
+mod MemoryLemmas
 mod PageLemmas
 mod ShelfLemmas
 mod StockLemmas

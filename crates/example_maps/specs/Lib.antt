@@ -4,6 +4,7 @@ pub mod Cache
 pub mod Copies
 pub mod Counts
 pub mod Listing
+pub mod Memory
 pub mod Minutes
 pub mod Orders
 pub mod Shelves

@@ -3,7 +3,7 @@
 //! count of words (`words.rt`), one of strings by their texts (`texts.rt`), a log listed by minutes (`minutes.rt`), a count of visits in a
 //! fixed table (`visits.rt`), a cache of a bounded number of pairs (`cache.rt`), what threads may share (`shared.rt`), and a map read
 //! from a copy of its nodes (`copies.rt`). A set of pairs in use: the shelves on which parts lie (`shelves.rt`). A set of ranges in use:
-//! reserved blocks (`reserved.rt`).
+//! reserved blocks (`reserved.rt`). A map of ranges in use: who owns which addresses (`memory.rt`).
 #![tactic(auto)]
 
 ghost use Rattle.std.specs.Prelude.{◌≡◌, ◌+◌, OnOk, OnErr, unwrap_or};
@@ -17,6 +17,7 @@ mod cache;
 mod copies;
 mod lines;
 mod listing;
+mod memory;
 mod minutes;
 mod orders;
 mod reserved;
@@ -33,6 +34,7 @@ use crate::cache::put;
 use crate::copies::{is_readable, read_copy};
 use crate::lines::read_stock;
 use crate::listing::next_page;
+use crate::memory::{Owner, give, owner_of, region_of, release, reserve as reserve_memory};
 use crate::minutes::{Minute, logged};
 use crate::orders::{cancel, take_best};
 use crate::reserved::reserve;
@@ -42,7 +44,9 @@ use crate::texts::{count_of, count_text};
 use crate::visits::count_visit;
 use crate::words::count_word;
 use btree_slab::generic::map::Refused;
-use btree_slab::{Address, BTreeExt, BTreeExtMut, BTreeMap, BTreeSet, FixedMap, RangeSet};
+use btree_slab::{
+    Address, BTreeExt, BTreeExtMut, BTreeMap, BTreeSet, FixedMap, RangeMap, RangeSet,
+};
 use std::alloc::Global;
 use std::io;
 use std::rt::Files;
@@ -97,6 +101,26 @@ fn print_blocks(rt: &impl Print, alloc: Global) -> io::Result<()> {
     }
     for (start, end) in reserved.gaps(0, 32) {
         rt.println(format_args!("free: {start} to {end}"))?;
+    }
+    Ok(())
+}
+
+/// Prints who owns which addresses, of a hundred. Some are reserved, some of these are given away and back, and some are released.
+fn print_memory(rt: &impl Print, alloc: Global) -> io::Result<()> {
+    let mut memory: RangeMap<Owner> = RangeMap::new(alloc);
+    give(&mut memory, 0, 16, Owner::System)?;
+    let start = reserve_memory(&mut memory, 40, 100, Owner::Process(1))?;
+    rt.println(format_args!("40 addresses: from {}", start.unwrap_or(100)))?;
+    for (owner, is) in [(2, "a part"), (1, "the whole")] {
+        give(&mut memory, 30, 40, Owner::Process(owner))?;
+        if let Some((start, span)) = region_of(&memory, 20) {
+            rt.println(format_args!("{is}: {start} to {}", span.end))?;
+        }
+    }
+    release(&mut memory, 20, 24)?;
+    rt.println(format_args!("22 is free: {}", owner_of(&memory, 22).is_none()))?;
+    for (start, span) in memory.iter() {
+        rt.println(format_args!("{start} to {}: {:?}", span.end, span.value))?;
     }
     Ok(())
 }
@@ -278,6 +302,7 @@ fn main(rt: HostRuntime) -> io::Result<()> {
     print_missing(&rt, rt.alloc(), &stock)?;
     print_bookings(&rt, rt.alloc())?;
     print_blocks(&rt, rt.alloc())?;
+    print_memory(&rt, rt.alloc())?;
     print_counts(&rt, rt.alloc())?;
     print_texts(&rt, rt.alloc())?;
     print_log(&rt, rt.alloc())?;

@@ -1,0 +1,45 @@
+use Rattle.btree_range_map.proofs.Common.{◌∙◌, Option, subst, sym, arith, Address, IsItemAt}
+use Rattle.btree_range_map.proofs.PlaceLemmas.{told-apart, told-same}
+use Rattle.btree_range_map.proofs.assign.meets.Goals as goal
+
+pub returns-then-first-span : goal.returns-then-first-span
+returns-then-first-span g c place is =
+    let item = (subst (λ (o : Option Address). IsItemAt c.args.map.now place o) c.in-Some.is is).here in
+    let low = c.if-first-span.true in
+    let end = c.max.ensures in
+    let same = told-same _ c.requires.same _ _ _ c.eq.ensures c.if-eq.true in
+    record {
+      range = (c.pair_at.result.0.now, c.pair_at.result.1.now);
+      item = item;
+      listed = sym item.item ∙ c.pair_at.ensures;
+      within = omega (arith, end);
+      wider = omega (arith, end);
+      joins = λ lt. (same, omega (arith, low), omega (arith, end, lt));
+    }
+
+pub returns-then-next-span : goal.returns-then-next-span
+returns-then-next-span g c place is =
+    let item = (subst (λ (o : Option Address). IsItemAt c.args.map.now place o) c.in-Some.is is).here in
+    let within = c.if-next-span.true in
+    record {
+      range = (c.pair_at.result.0.now, c.pair_at.result.1.now);
+      item = item;
+      listed = sym item.item ∙ c.pair_at.ensures;
+      within = omega (arith, within);
+      wider = omega arith;
+      joins = λ lt. absurd (omega (arith, lt));
+    }
+
+pub returns : goal.returns
+returns g c place is =
+    let item = (subst (λ (o : Option Address). IsItemAt c.args.map.now place o) c.in-Some.is is).here in
+    let starts = c.if-span-first.false in
+    let past = c.if-next-span.false in
+    record {
+      first = c.pair_at.result.0.now;
+      item = item;
+      listed = sym item.item ∙ c.pair_at.ensures;
+      starts = omega (arith, starts);
+      past = omega (arith, past);
+      differ = told-apart _ c.requires.same _ _ _ c.eq.ensures c.if-eq.false;
+    }

@@ -1,0 +1,106 @@
+-- What callers conclude from the words of a map of ranges: which numbers are between two others, which values the ranges have
+-- that meet some numbers, and that `==` is equality of the ranges.
+-- `#![tactic(auto, using(btree_range_map::specs::CallerLaws::range_laws))]` gives `search` the laws on ranges that meet.
+use Rattle.std.proofs.Common.{◌≡◌, ◌≤◌, ◌<◌, ◌∙◌, ℕ, max, min, Bool, true, false, nat_eq, nat_le, nat_lt, List, [], ◌∷◌, cond, Some, refl, sym, ap, arith, ◌⊎◌, inl, inr, Decides}
+use Rattle.std.proofs.lemmas.Bool.{and_from, and_parts, cases_Bool, eq-eqb, eqb-true, le-leb, leb-true, lt-ltb, ltb-true}
+use Rattle.std.specs.Cmp.Lexicographic.{pointwise_decides}
+use Rattle.btree_map.specs.Comparison.{pair_eq}
+use Rattle.btree_range_map.specs.declared.span.Span.{Span}
+use Rattle.btree_range_map.specs.SameRanges.{ranges_eq, span_eq}
+use Rattle.btree_range_map.specs.Ranges.{Overlaps, OverlapsNone, TellsSame, is_between, is_within, meets, ranges_meeting, value_at}
+
+-- ---- a number between two others
+-- one from a start to below an end is between them
+pub between-from : (s e n : ℕ) → s ≤ n → n < e → is_between s e n ≡ true
+between-from s e n low high = and_from (nat_le s n) (nat_lt n e) (le-leb s n low) (lt-ltb n e high)
+
+-- it is not below the start
+pub between-low : (s e n : ℕ) → is_between s e n ≡ true → s ≤ n
+between-low s e n is = leb-true s n (and_parts (nat_le s n) (nat_lt n e) is).0
+
+-- it is below the end
+pub between-high : (s e n : ℕ) → is_between s e n ≡ true → n < e
+between-high s e n is = ltb-true n e (and_parts (nat_le s n) (nat_lt n e) is).1
+
+module _ {V : Type 0} where
+  -- ---- the ranges that meet some numbers
+  -- a number in the first range has its value
+  first-has : (x : ℕ × Span V) (xs : List (ℕ × Span V)) (n : ℕ) → is_within x n ≡ true → value_at (x ∷ xs) n ≡ Some x.1.value
+  first-has x xs n inside = rw inside refl
+
+  -- another one has the value that the other ranges give it
+  first-lacks : (x : ℕ × Span V) (xs : List (ℕ × Span V)) (n : ℕ) → is_within x n ≡ false → value_at (x ∷ xs) n ≡ value_at xs n
+  first-lacks x xs n outside = rw outside refl
+
+  -- of these numbers, each has the value that the ranges give it
+  pub value-meeting : (s e n : ℕ) (xs : List (ℕ × Span V)) → is_between s e n ≡ true → value_at (ranges_meeting s e xs) n ≡ value_at xs n
+  value-meeting s e n [] inside = refl
+  value-meeting s e n (x ∷ xs) inside = by (meets s e x) refl (value-meeting s e n xs inside) where
+    low : s ≤ n
+    low = between-low s e n inside
+
+    high : n < e
+    high = between-high s e n inside
+
+    outside : meets s e x ≡ false → (is_within x n ≡ true) ⊎ (is_within x n ≡ false) → is_within x n ≡ false
+    outside is (inr out) = out
+    outside is (inl within) =
+        let yes = lt-ltb (max s x.0) (min e x.1.end) (omega (arith, low, high, between-low x.0 x.1.end n within, between-high x.0 x.1.end n within)) in
+        absurd (cc)
+
+    by : (b : Bool) → meets s e x ≡ b → value_at (ranges_meeting s e xs) n ≡ value_at xs n
+        → value_at (cond b (x ∷ ranges_meeting s e xs) (ranges_meeting s e xs)) n ≡ cond (is_within x n) (Some x.1.value) (value_at xs n)
+    by true is rest = ap (λ v. cond (is_within x n) (Some x.1.value) v) rest
+    by false is rest = rest ∙ sym (first-lacks x xs n (outside is (cases_Bool (is_within x n))))
+
+  -- if no range meets them, none of them has a value
+  pub none-meet : (s e : ℕ) (xs : List (ℕ × Span V)) → ranges_meeting s e xs ≡ [] → OverlapsNone xs s e
+  none-meet s e xs none n inside = sym (value-meeting s e n xs inside) ∙ ap (λ l. value_at l n) none
+
+  -- if one does, one of them has a value
+  pub some-meet : (s e : ℕ) (xs : List (ℕ × Span V)) (x : ℕ × Span V) (rest : List (ℕ × Span V)) → ranges_meeting s e xs ≡ x ∷ rest → Overlaps xs s e
+  some-meet s e [] x rest is = absurd (cc)
+  some-meet s e (y ∷ ys) x rest is = by (meets s e y) refl is (λ later. some-meet s e ys x rest later) where
+    found : (n : ℕ) (v : V) → is_between s e n ≡ true → value_at ys n ≡ Some v → (is_within y n ≡ true) ⊎ (is_within y n ≡ false) → Overlaps (y ∷ ys) s e
+    found n v inside has (inl within) = record { number = n; value = y.1.value; inside = inside; has = first-has y ys n within }
+    found n v inside has (inr out) = record { number = n; value = v; inside = inside; has = first-lacks y ys n out ∙ has }
+
+    by : (b : Bool) → meets s e y ≡ b → cond b (y ∷ ranges_meeting s e ys) (ranges_meeting s e ys) ≡ x ∷ rest
+        → (ranges_meeting s e ys ≡ x ∷ rest → Overlaps ys s e) → Overlaps (y ∷ ys) s e
+    by true sure _ _ =
+        let lt = ltb-true (max s y.0) (min e y.1.end) sure in
+        record {
+          number = max s y.0;
+          value = y.1.value;
+          inside = between-from s e (max s y.0) (omega arith) (omega (arith, lt));
+          has = first-has y ys (max s y.0) (between-from y.0 y.1.end (max s y.0) (omega arith) (omega (arith, lt)));
+        }
+    by false _ later some = let one = some later in found one.number one.value one.inside one.has (cases_Bool (is_within y one.number))
+
+pub ruleset range_laws = (value-meeting, none-meet, some-meet)
+
+-- ---- equal maps
+module _ {V : Type 0} (eq : V → V → Bool) (tells : TellsSame eq) where
+  span-equal : (x y : Span V) → Decides (span_eq eq x y) (x ≡ y)
+  span-equal x y = (
+    λ is. let parts = and_parts (nat_eq x.end y.end) (eq x.value y.value) is in
+        let end = eqb-true x.end y.end parts.0 in
+        let value = (tells x.value y.value).0 parts.1 in
+        λ i. record { end = end i; value = value i },
+    λ same. and_from (nat_eq x.end y.end) (eq x.value y.value)
+        (eq-eqb x.end y.end (ap (λ (z : Span V). z.end) same)) ((tells x.value y.value).1 (ap (λ (z : Span V). z.value) same)),
+  )
+
+  range-equal : (p q : ℕ × Span V) → Decides (pair_eq nat_eq (span_eq eq) p q) (p ≡ q)
+  range-equal p q = (
+    λ is. let parts = and_parts (nat_eq p.0 q.0) (span_eq eq p.1 q.1) is in
+        let start = eqb-true p.0 q.0 parts.0 in
+        let span = (span-equal p.1 q.1).0 parts.1 in
+        λ i. (start i, span i),
+    λ same. and_from (nat_eq p.0 q.0) (span_eq eq p.1 q.1)
+        (eq-eqb p.0 q.0 (ap (λ (z : ℕ × Span V). z.0) same)) ((span-equal p.1 q.1).1 (ap (λ (z : ℕ × Span V). z.1) same)),
+  )
+
+  -- maps are `==` exactly if their ranges are equal
+  pub ranges-equal : (xs ys : List (ℕ × Span V)) → Decides (ranges_eq eq xs ys) (xs ≡ ys)
+  ranges-equal = pointwise_decides range-equal

@@ -1,0 +1,66 @@
+//! Changes of the values that some numbers have.
+ghost use Rattle.std.specs.Prelude.{◌≡◌, ◌≤◌, ◌<◌, IfErr, IfNone, IfSome, OnOk};
+ghost use Rattle.btree_range_map.specs.Ranges.{JoinsNone, OverlapsNone};
+ghost use Rattle.btree_range_map.specs.State.{CountsLastRefusal, GrowsWithinLimit};
+ghost use Rattle.btree_range_map.specs.Updates.{IsFirstPart, IsUpdated};
+
+use crate::{RangeMap, Span};
+use btree_item::Refused;
+use btree_node::NodesMut;
+use std::iter::Iterator;
+
+// Returns the first numbers from `start` up to `end` that have a value, as a range: those of one range of the map.
+fn first_part<V: Copy + Eq, C: NodesMut<u64, Span<V>>>(
+    map: &RangeMap<V, C>,
+    start: u64,
+    end: u64,
+) -> Option<(u64, Span<V>)>
+    ensures some { IfSome result (IsFirstPart map.now.ranges start end) }
+    ensures none { IfNone result (OverlapsNone map.now.ranges start end) }
+{
+    match map.overlapping(start, end).next() {
+        Some((first, span)) => {
+            let last = end.min(span.end);
+            let value = span.value;
+            Some((first.max(start), Span { end: last, value }))
+        }
+        None => None,
+    }
+}
+
+impl<V: Copy + Eq, C: NodesMut<u64, Span<V>>> RangeMap<V, C> {
+    /// Gives each number from `start` up to `end`, which is not one of them, that has a value the one that `action` returns for it. It calls
+    /// `action` once for the numbers of each range that meets these, in ascending order, and inserts what it returns.
+    ///
+    /// If an insertion is refused, it returns the error of that one, with its numbers and value: those below them have been changed, and no other.
+    pub fn update<F: Fn(V) -> V>(
+        &mut self,
+        start: u64,
+        end: u64,
+        action: F,
+    ) -> Result<(), Refused<u64, Span<V>>>
+        requires { F.IsAlwaysCallable action }
+        ensures updated { OnOk result
+            (IsUpdated (F.post action) self.old.ranges start end self.new.ranges) }
+        ensures uncounted { OnOk result (self.new.kept ≡ self.old.kept) }
+        ensures bounded { GrowsWithinLimit self.old self.new }
+
+        ensures stopped { IfErr result (λ r.
+            IsUpdated (F.post action) self.old.ranges start r.key self.new.ranges) }
+        ensures inside { IfErr result (λ r.
+            (start ≤ r.key) × (r.key < r.value.end) × (r.value.end ≤ end)) }
+        ensures joins_none { IfErr result (λ r.
+            JoinsNone self.new.ranges r.key r.value.end r.value.value) }
+        ensures cause { IfErr result (λ r.
+            CountsLastRefusal self.old self.new r.key r.value.end r.cause) }
+    {
+        let mut from = start;
+        while let Some((first, span)) = first_part(self, from, end) {
+            match self.insert(first, span.end, action(span.value)) {
+                Ok(()) => from = span.end,
+                Err(refused) => return Err(refused),
+            }
+        }
+        Ok(())
+    }
+}

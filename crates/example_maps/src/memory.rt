@@ -1,0 +1,100 @@
+//! The memory of a machine, and who owns which addresses: a map of ranges. Two regions of one owner that touch are one region.
+ghost use Rattle.std.specs.Prelude.{◌≡◌, ◌+◌, IfNone, IfOk, IfSome, None, OnErr, OnOk};
+ghost use Rattle.btree_slab.specs.RangeMapRanges.{IsAssigned, IsCleared, IsMaximalRun, value_at};
+ghost use Rattle.example_maps.specs.Memory.{AreFreeBelow, Reserves};
+
+use btree_slab::generic::map::Refused;
+use btree_slab::range_map::{RangeMap, Span};
+use btree_slab::store::NodesMut;
+
+/// Who owns an address.
+#[derive(Clone, Copy, Debug, PartialEq, Eq, Drop)]
+pub enum Owner {
+    /// The system.
+    System,
+    /// A process, by its number.
+    Process(u32),
+}
+
+// Returns the first `size` free addresses in a row below `end`, from the first of them up to the one after the last.
+fn first_free<C: NodesMut<u64, Span<Owner>>>(
+    memory: &RangeMap<Owner, C>,
+    size: u64,
+    end: u64,
+) -> Option<(u64, u64)>
+    ensures free { IfSome result (AreFreeBelow end memory.now.ranges) }
+    ensures size { IfSome result (λ run. run.1 ≡ run.0 + size) }
+{
+    let mut gaps = memory.gaps(0, end);
+    while let Some((start, last)) = gaps.next() {
+        if size <= last.saturating_sub(start) {
+            return Some((start, start + size));
+        }
+    }
+    None
+}
+
+/// Reserves the first `size` addresses in a row that are free, below `end`, and returns the first of them. Returns `None`, and nothing
+/// changes, if there are no such addresses.
+pub fn reserve<C: NodesMut<u64, Span<Owner>>>(
+    memory: &mut RangeMap<Owner, C>,
+    size: u64,
+    end: u64,
+    owner: Owner,
+) -> Result<Option<u64>, Refused<u64, Span<Owner>>>
+    ensures reserved { IfOk result (Reserves end size owner memory.old memory.new) }
+    ensures kept { OnErr result (memory.new.ranges ≡ memory.old.ranges) }
+{
+    let Some((start, last)) = first_free(memory, size, end) else {
+        return Ok(None);
+    };
+    memory.insert(start, last, owner)?;
+    Ok(Some(start))
+}
+
+/// Gives addresses to an owner. A region that has more than these is split: the rest stays with its owner.
+pub fn give<C: NodesMut<u64, Span<Owner>>>(
+    memory: &mut RangeMap<Owner, C>,
+    start: u64,
+    end: u64,
+    owner: Owner,
+) -> Result<(), Refused<u64, Span<Owner>>>
+    ensures given { OnOk result
+        (IsAssigned memory.old.ranges start end owner memory.new.ranges) }
+    ensures kept { OnErr result (memory.new.ranges ≡ memory.old.ranges) }
+{
+    memory.insert(start, end, owner)
+}
+
+/// Frees addresses.
+pub fn release<C: NodesMut<u64, Span<Owner>>>(
+    memory: &mut RangeMap<Owner, C>,
+    start: u64,
+    end: u64,
+) -> Result<(), Refused<u64, u64>>
+    ensures freed { OnOk result (IsCleared memory.old.ranges start end memory.new.ranges) }
+    ensures kept { OnErr result (memory.new.ranges ≡ memory.old.ranges) }
+{
+    memory.remove(start, end)
+}
+
+/// Returns the owner of an address, or `None` if it is free.
+pub fn owner_of<C: NodesMut<u64, Span<Owner>>>(
+    memory: &RangeMap<Owner, C>,
+    address: u64,
+) -> Option<Owner>
+    ensures { result ≡ value_at memory.now.ranges address }
+{
+    memory.get(address)
+}
+
+/// Returns the whole region around an address: all addresses beside it that have its owner. Returns `None` if it is free.
+pub fn region_of<C: NodesMut<u64, Span<Owner>>>(
+    memory: &RangeMap<Owner, C>,
+    address: u64,
+) -> Option<(u64, Span<Owner>)>
+    ensures whole { IfSome result (IsMaximalRun memory.now.ranges) }
+    ensures free { IfNone result (value_at memory.now.ranges address ≡ None) }
+{
+    memory.get_range(address)
+}
