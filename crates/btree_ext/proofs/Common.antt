@@ -45,6 +45,6 @@ pub use Rattle.btree_raw.specs.Raw.{with_node}
 pub use Rattle.btree_raw.specs.Rebalance.{HasRoom, IsRebalanced}
 pub use Rattle.btree_raw.specs.Steps.{HasCount, HasParent}
 pub use Rattle.btree_store.specs.Content.{Content}
-pub use Rattle.btree_store.specs.ContentLaws.{get-insert_same}
+pub use Rattle.btree_store.proofs.ContentLaws.{get-insert_same}
 pub use Rattle.btree_view.specs.Edits.{is_internal, with_other_item, with_other_item_at}
 pub use Rattle.btree_view.specs.View.{View, NodeMap, leaf, internal, item_in, items_of, most_of, size_of, children_of}

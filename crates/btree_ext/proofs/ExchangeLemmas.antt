@@ -5,7 +5,7 @@ use Rattle.std.specs.FinMap as map
 use Rattle.std.specs.Map.{keys_of}
 use Rattle.std.specs.List.Sorted.{IsStrictlySortedBy}
 use Rattle.btree_item.specs.Pairs.{Ascends}
-use Rattle.btree_store.specs.ContentLaws.{insert-same}
+use Rattle.btree_store.proofs.ContentLaws.{insert-same}
 use Rattle.btree_node.specs.NodeLends.{node_with_item_at}
 use Rattle.btree_node.proofs.NodeLemmas.{item_at-children, item_at-items, item_at-kind, item_at-parent}
 use Rattle.btree_laws.specs.Focus.TreePositions.{HasPosition}

@@ -1,7 +1,7 @@
 -- An insertion by key: at a key that is there, and at the gap of one that is not.
 use Rattle.btree_ext.proofs.Common.{◌≡◌, ℕ, List, Option, Some, None, Ok, Err, IsSome, refl, sym, ◌∙◌, is_some, if◌then◌else◌, slice_get, arith, IsTotalOrder, Ordering, before, found, found_value, Address, TreeState, IsBTree, pairs_of, IsFoundAt, IsGapAt, IsValueExchanged, IsGapFor, IsInserted}
 use Rattle.btree_item.proofs.PairLemmas.{set-from_Ok, slice_get-from_Ok}
-use Rattle.btree_item.specs.KeyLaws.{cuts_of}
+use Rattle.btree_item.proofs.KeyLaws.{cuts_of}
 use Rattle.btree_item.specs.Pairs.{inserted}
 use Rattle.btree_laws.proofs.Options.{some-none}
 use Rattle.btree_ext.specs.Insert.{InsertsByKey}

@@ -1,6 +1,6 @@
 -- A value written at a key: at its address, and in the list.
 use Rattle.btree_ext.proofs.Common.{◌≡◌, ◌∙◌, Some, unwrap_or, sym, ap, slice_get, subst, IsTotalOrder, Ordering, Address, before-from_Ok, address_at, TreeState, IsBTree, pairs_of, IsFoundAt, IsValueExchanged, address_at_key, value_written}
-use Rattle.btree_item.specs.KeyLaws.{cuts_of}
+use Rattle.btree_item.proofs.KeyLaws.{cuts_of}
 use Rattle.btree_item.specs.Keys.{Cuts}
 use Rattle.btree_item.proofs.PairLemmas.{set-from_Ok}
 use Rattle.btree_laws.specs.Place.{NOWHERE}

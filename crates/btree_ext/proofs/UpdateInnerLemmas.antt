@@ -2,7 +2,7 @@
 use Rattle.btree_ext.proofs.Common.{◌≡◌, ◌≢◌, ◌∙◌, ◌<◌, ◌≤◌, ◌^◌, ℕ, zero, suc, inl, inr, List, [], ◌∷◌, length, set, Option, Some, None, IsSome, IsTrue, IsSomeAnd, refl, sym, ap, subst, option_map, option_and_then, slice_get, arith, slice_get_within, IsTotalOrder, remove, Ordering, get-insert_same, Address, Node, view_of, is_internal, with_other_item, with_other_item_at, View, leaf, item_in, items_of, most_of, size_of, HasItems, WritesNode, TreeState, Changes, IsBTree, IsUsed, item_of, node_map, same-or, TakesLast, with_node, IsValueExchanged, IsInnerAt}
 use Rattle.std.proofs.Common.{◌++◌}
 use Rattle.std.specs.FinMap as finite
-use Rattle.btree_store.specs.ContentLaws.{get-insert_other}
+use Rattle.btree_store.proofs.ContentLaws.{get-insert_other}
 use Rattle.btree_view.specs.Edits.{HasChildFor, pushed_right}
 use Rattle.btree_view.specs.View.{item_at_offset}
 use Rattle.btree_laws.proofs.Trees.Stores.{view-at}

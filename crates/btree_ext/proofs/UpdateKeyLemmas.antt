@@ -2,7 +2,7 @@
 use Rattle.btree_ext.proofs.Common.{◌≡◌, ◌≢◌, ◌<◌, ◌∙◌, ◌^◌, ◌-◌, ℕ, inl, inr, List, [], ◌∷◌, Option, Some, None, Result, Ok, Err, IfSome, IsSome, refl, sym, ap, subst, is_some, if◌then◌else◌, option_map, IsTotalOrder, insert, remove, Ordering, Content, found-from_Err, before, found, found_value, Address, Node, need, TreeState, IsBTree, IsUsed, item_of, node_map, nodes_needed, pairs_of, used-view, else-none, then-some, EMPTY, with_node, IsFoundAt, IsGapAt, IsGapFor, IsRemoved, RunsAt}
 use Rattle.std.proofs.Common.{IfOk, OnErr, OnOk}
 use Rattle.std.specs.FinMap as finite
-use Rattle.btree_store.specs.ContentLaws.{remove-insert}
+use Rattle.btree_store.proofs.ContentLaws.{remove-insert}
 use Rattle.btree_item.proofs.PairEdits.{before-from_KeyFits, found-from_KeyFits}
 use Rattle.btree_raw.specs.Claimed.{CanHoldMore}
 use Rattle.btree_find.specs.Answers.{IsAddressIn, IsAddressOf, IsGapIn}

@@ -1,7 +1,7 @@
 -- An update of a pair in a leaf: it was taken out, and is put back with another value.
 use Rattle.btree_ext.proofs.Common.{◌≡◌, ◌∙◌, ◌<◌, ◌≤◌, ◌^◌, ℕ, List, set, Option, Some, None, Ok, IsSome, IsSomeAnd, refl, sym, ap, subst, option_and_then, slice_get, arith, slice_get_within, IsTotalOrder, remove, Ordering, Content, get-insert_same, Address, Node, view_of, leaf, item_in, most_of, size_of, HasItems, TreeState, Changes, IsBTree, item_of, node_map, writes_node, with_node, IsValueExchanged}
 use Rattle.std.specs.FinMap as finite
-use Rattle.btree_store.specs.ContentLaws.{insert-insert}
+use Rattle.btree_store.proofs.ContentLaws.{insert-insert}
 use Rattle.btree_view.specs.Edits.{HasChildFor, with_item_at, without_at}
 use Rattle.btree_view.specs.Removal.{removal_in}
 use Rattle.btree_ext.proofs.ExchangeLemmas.{ExchangesAt, value-exchanged}

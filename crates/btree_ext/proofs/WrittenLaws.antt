@@ -2,7 +2,7 @@
 use Rattle.std.proofs.Common.{◌≡◌, ◌∙◌, ◌∷◌, [], ℕ, zero, suc, List, Option, Some, None, refl, sym, ap, option_map, option_and_then, set, slice_get}
 use Rattle.std.specs.FinMap as map
 use Rattle.btree_item.specs.Address.{Address}
-use Rattle.btree_store.specs.ContentLaws.{get-insert_same}
+use Rattle.btree_store.proofs.ContentLaws.{get-insert_same}
 use Rattle.btree_node.specs.declared.node.Node.{Node}
 use Rattle.btree_node.specs.Node.{view_of}
 use Rattle.btree_node.proofs.NodeLemmas.{item_at-items}

@@ -2,7 +2,7 @@
 use Rattle.btree_find.proofs.Common.{◌≡◌, ◌∙◌, ◌++◌, ◌∷◌, [], ◌<◌, ℕ, zero, suc, List, Some, Ok, length, length-append, slice_get, sym, ap, subst, arith, IsTotalOrder, Ordering, Less, Ascends, place_of, rises, searched}
 use Rattle.std.proofs.lemmas.Option.{same_Some}
 use Rattle.std.specs.declared.cmp.Ordering.TheVariants.{Greater}
-use Rattle.btree_item.specs.KeyLaws.{cuts_of}
+use Rattle.btree_item.proofs.KeyLaws.{cuts_of}
 use Rattle.btree_laws.proofs.LookUp.KeyInList.{AreAbove, AreBelow}
 use Rattle.btree_find.specs.Fits.{KeyReplaces}
 

@@ -8,7 +8,7 @@ use Rattle.std.specs.Cmp.{IsTotalOrder}
 use Rattle.std.specs.FinMap as map
 use Rattle.std.specs.declared.cmp.Ordering.{Ordering}
 use Rattle.btree_store.specs.Content.{Content}
-use Rattle.btree_store.specs.ContentLaws.{len-insert_unused}
+use Rattle.btree_store.proofs.ContentLaws.{len-insert_unused}
 use Rattle.btree_item.specs.Pairs.{found}
 use Rattle.btree_item.specs.Address.{Address}
 use Rattle.btree_item.specs.declared.refused.Cause.{Cause}

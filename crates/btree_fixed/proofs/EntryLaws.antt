@@ -11,7 +11,7 @@ use Rattle.std.specs.declared.cmp.Ord as ord
 use Rattle.std.specs.declared.cmp.Ordering.{Ordering}
 use Rattle.std.specs.declared.cmp.PartialEq as eq
 use Rattle.std.specs.declared.cmp.PartialOrd as partial
-use Rattle.btree_store.specs.ContentLaws.{len-insert_used}
+use Rattle.btree_store.proofs.ContentLaws.{len-insert_used}
 use Rattle.btree_item.specs.Pairs.{found}
 use Rattle.btree_item.specs.Address.{Address}
 use Rattle.btree_item.specs.declared.refused.Cause.{Cause}

@@ -4,7 +4,7 @@ use Rattle.std.proofs.Common.{set, take}
 use Rattle.std.specs.Cmp.{IsTotalOrder}
 use Rattle.std.specs.List.{insert, remove, zip}
 use Rattle.btree_item.specs.Pairs.{Ascends}
-use Rattle.btree_item.specs.KeyLaws.{cuts_of}
+use Rattle.btree_item.proofs.KeyLaws.{cuts_of}
 use Rattle.btree_item.proofs.PairLemmas.{set-from_Ok}
 use Rattle.btree_internal.specs.InternalLends.{internal_with_item_at, internal_with_value, with_value_read}
 use Rattle.std.specs.Map.{keys_of}

@@ -13,7 +13,7 @@ use Rattle.std.proofs.lemmas.Map.Keys.{sorted_head}
 use Rattle.std.proofs.lemmas.Option.{slice_get-map}
 use Rattle.btree_item.specs.Keys.{IsFirstNotBelow}
 use Rattle.btree_item.specs.Pairs.{Ascends, KeyFits, before, found, with_value, inserted}
-use Rattle.btree_item.specs.KeyLaws.{cuts_of}
+use Rattle.btree_item.proofs.KeyLaws.{cuts_of}
 use Rattle.btree_item.proofs.KeyLemmas.{AllBelow-none, AllBelow-from_key, IsFirstNotBelow-count, count_below-first, has_key-gap, has_key-here}
 use Rattle.btree_item.proofs.PairLemmas.{None-from_is_some, count_below-keys_of, has_key-keys_of}
 

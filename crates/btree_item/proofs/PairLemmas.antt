@@ -5,7 +5,7 @@ use Rattle.std.specs.Prelude.{IfOk, OnErr, is_some}
 use Rattle.std.specs.Map.{keys_of}
 use Rattle.btree_item.specs.Keys.{Cuts, key_place}
 use Rattle.btree_item.specs.Pairs.{Ascends, before, found, place_of, with_value, inserted}
-use Rattle.btree_item.specs.KeyLaws.{cuts_of}
+use Rattle.btree_item.proofs.KeyLaws.{cuts_of}
 use Rattle.btree_item.proofs.KeyLemmas.{count_by-cons, count_below-later, has_key-later}
 
 pub None-from_is_some : {T : Type 0} (o : Option T) → is_some o ≡ false → o ≡ None

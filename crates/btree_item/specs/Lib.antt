@@ -1,11 +1,9 @@
 pub mod Offset
-pub mod OffsetLaws
 pub mod Address
 pub mod Item
 pub mod Somes
 pub mod Slots
 pub mod Comparisons
 pub mod Keys
-pub mod KeyLaws
 pub mod Pairs
 pub mod Refusals

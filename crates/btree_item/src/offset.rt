@@ -25,7 +25,7 @@ impl Model for Offset {
 
     ghost inverse = { λ n. record { above = kept_number n } };
 
-    ghost use Rattle.btree_item.specs.OffsetLaws.{kept_above};
+    ghost use Rattle.btree_item.proofs.OffsetLaws.{kept_above};
 
     ghost inverse_ok = { λ o _. kept_above o };
 }

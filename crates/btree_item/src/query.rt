@@ -29,7 +29,7 @@ pub trait Query<K: Ord> {
 }
 
 impl<K: Ord> Query<K> for K {
-    ghost use Rattle.btree_item.specs.KeyLaws.{cuts_of};
+    ghost use Rattle.btree_item.proofs.KeyLaws.{cuts_of};
 
     ghost compare = { K.cmp };
 
@@ -51,7 +51,7 @@ impl<A: Allocator> Query<String<A>> for &str {
     ghost use Rattle.std.specs.Prelude.{string_bytes};
     ghost use Rattle.std.specs.Ordering.{nat_cmp};
     ghost use Rattle.std.specs.Cmp.Lexicographic.{slice_cmp, nat_list_cmp_total};
-    ghost use Rattle.btree_item.specs.KeyLaws.{cuts_by};
+    ghost use Rattle.btree_item.proofs.KeyLaws.{cuts_by};
 
     ghost compare = { λ key query. slice_cmp nat_cmp (string_bytes key) query.now };
 
@@ -75,7 +75,7 @@ fn order<'a, T: Ord>(left: &'a [T], right: &'a [T]) -> Ordering
 // A slice, for keys that are vectors.
 impl<T: Ord, A: Allocator> Query<Vec<T, A>> for &[T] {
     ghost use Rattle.std.specs.Cmp.Lexicographic.{slice_cmp, lists_total};
-    ghost use Rattle.btree_item.specs.KeyLaws.{cuts_by};
+    ghost use Rattle.btree_item.proofs.KeyLaws.{cuts_by};
 
     ghost compare = { λ key query. slice_cmp T.cmp key.items query.now };
 
@@ -95,7 +95,7 @@ impl<T: Ord, A: Allocator> Query<Vec<T, A>> for &[T] {
 pub struct Before<'a, Q>(pub &'a Q);
 
 impl<'a, K: Ord, Q: Query<K>> Query<K> for Before<'a, Q> {
-    ghost use Rattle.btree_item.specs.KeyLaws.{side_before, cuts_before};
+    ghost use Rattle.btree_item.proofs.KeyLaws.{side_before, cuts_before};
 
     ghost compare = { λ key query. side_before (Q.compare key query.0.now) };
 
@@ -117,7 +117,7 @@ impl<'a, K: Ord, Q: Query<K>> Query<K> for Before<'a, Q> {
 pub struct After<'a, Q>(pub &'a Q);
 
 impl<'a, K: Ord, Q: Query<K>> Query<K> for After<'a, Q> {
-    ghost use Rattle.btree_item.specs.KeyLaws.{side_after, cuts_after};
+    ghost use Rattle.btree_item.proofs.KeyLaws.{side_after, cuts_after};
 
     ghost compare = { λ key query. side_after (Q.compare key query.0.now) };
 
@@ -138,7 +138,7 @@ impl<'a, K: Ord, Q: Query<K>> Query<K> for After<'a, Q> {
 pub struct BeforeFirst<'a, A>(pub &'a A);
 
 impl<'a, A: Ord, B: Ord> Query<(A, B)> for BeforeFirst<'a, A> {
-    ghost use Rattle.btree_item.specs.KeyLaws.{side_before, first_cuts_before};
+    ghost use Rattle.btree_item.proofs.KeyLaws.{side_before, first_cuts_before};
 
     ghost compare = { λ key query. side_before (A.cmp key.0 query.0.now) };
 
@@ -159,7 +159,7 @@ impl<'a, A: Ord, B: Ord> Query<(A, B)> for BeforeFirst<'a, A> {
 pub struct AfterFirst<'a, A>(pub &'a A);
 
 impl<'a, A: Ord, B: Ord> Query<(A, B)> for AfterFirst<'a, A> {
-    ghost use Rattle.btree_item.specs.KeyLaws.{side_after, first_cuts_after};
+    ghost use Rattle.btree_item.proofs.KeyLaws.{side_after, first_cuts_after};
 
     ghost compare = { λ key query. side_after (A.cmp key.0 query.0.now) };
 

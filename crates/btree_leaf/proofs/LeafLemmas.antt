@@ -5,7 +5,7 @@ use Rattle.std.specs.Prelude.{slice_get}
 use Rattle.std.specs.List.{insert}
 use Rattle.std.specs.Cmp.{IsTotalOrder}
 use Rattle.btree_item.specs.Pairs.{Ascends, found, found_value, place_of, with_value, inserted}
-use Rattle.btree_item.specs.KeyLaws.{cuts_of}
+use Rattle.btree_item.proofs.KeyLaws.{cuts_of}
 use Rattle.btree_item.proofs.PairLemmas.{set-from_Ok, inserted-from_Ok, inserted-from_Err}
 use Rattle.btree_item.proofs.PairEdits.{Ascends-inserted}
 use Rattle.btree_leaf.specs.LeafLends.{leaf_with_item_at}

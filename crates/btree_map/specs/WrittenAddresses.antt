@@ -4,7 +4,7 @@ use Rattle.std.proofs.lemmas.Bool.{cases_eq}
 use Rattle.std.proofs.lemmas.List.{length-set}
 use Rattle.std.specs.FinMap as finite
 use Rattle.btree_item.specs.Address.{Address}
-use Rattle.btree_store.specs.ContentLaws.{get-insert_same, get-insert_other, len-insert_used}
+use Rattle.btree_store.proofs.ContentLaws.{get-insert_same, get-insert_other, len-insert_used}
 use Rattle.btree_node.specs.declared.node.Node.{Node}
 use Rattle.btree_node.specs.Node.{view_of}
 use Rattle.btree_node.proofs.NodeLemmas.{item_at-kind, item_at-items, item_at-children}

@@ -4,8 +4,8 @@ use Rattle.std.specs.List.{AllZip}
 use Rattle.std.specs.Ordering.{nat_cmp}
 use Rattle.std.specs.FinMap.{empty, get, get-empty}
 use Rattle.btree_store.specs.Content.{content_from}
-use Rattle.btree_store.specs.ContentLaws.{same_content}
-use Rattle.btree_store.specs.SlotLaws.{get-content}
+use Rattle.btree_store.proofs.ContentLaws.{same_content}
+use Rattle.btree_store.proofs.SlotLaws.{get-content}
 
 -- slots of which none has a value
 pub content-none : {T : Type 0} (slots : List (Option T)) → ((q : ℕ) → get_or slots q None ≡ None) → content_from 0 slots ≡ empty

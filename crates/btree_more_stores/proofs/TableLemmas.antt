@@ -6,7 +6,7 @@ use Rattle.std.proofs.lemmas.List.Sums.{sum_by-set}
 use Rattle.std.specs.Array.{AllOfLen}
 use Rattle.std.specs.Ordering.{nat_cmp}
 use Rattle.std.specs.FinMap.{len, len-empty}
-use Rattle.btree_store.specs.SlotLaws.{len-content}
+use Rattle.btree_store.proofs.SlotLaws.{len-content}
 use Rattle.btree_more_stores.proofs.SlotLemmas.{content-none}
 use Rattle.btree_store.specs.Content.{content_from}
 use Rattle.btree_more_stores.specs.Table.{IsTable}

@@ -1,6 +1,4 @@
-pub mod CapacityLaws
 pub mod Gated
 pub mod Lends
 pub mod Odd
-pub mod OddLaws
 pub mod Table

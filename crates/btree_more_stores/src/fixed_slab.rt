@@ -1,5 +1,5 @@
 //! A store of a fixed number of places.
-#![tactic(auto, using(btree_store::specs::SlotLaws::slots))]
+#![tactic(auto, using(btree_store::proofs::SlotLaws::slots))]
 
 ghost use Rattle.std.specs.Prelude.{◌≡◌, ℕ, ◌+◌, ◌<◌, ◌≤◌, IfOk, IfErr, OnOk, OnErr, IsSome, Some, None, option_copied, [], length, slice_index_or, slice_set};
 ghost use Rattle.std.specs.Option.{option_copied_mut};
@@ -103,7 +103,7 @@ impl<T, const N: usize> Slab<T> for FixedSlab<T, N> {
 impl<T, const N: usize> SlabMut<T> for FixedSlab<T, N> {
     ghost use Rattle.std.proofs.Common.{refl};
     ghost use Rattle.std.specs.Mem.{FitsInMemory};
-    ghost use Rattle.btree_store.specs.SlotLaws.{content-written};
+    ghost use Rattle.btree_store.proofs.SlotLaws.{content-written};
     ghost use Rattle.btree_more_stores.specs.Table.{with_value};
 
     type Origin = ();

@@ -1,5 +1,5 @@
 //! A store whose numbers are odd.
-#![tactic(auto, using(crate::specs::OddLaws::odds))]
+#![tactic(auto, using(crate::proofs::OddLaws::odds))]
 
 ghost use Rattle.std.specs.Prelude.{◌≡◌, ℕ, ◌+◌, ◌<◌, IfOk, IfErr, OnOk, OnErr, IsSome, Some, None, IfSome, IfNone, option_copied};
 ghost use Rattle.std.specs.FinMap as map;
@@ -68,7 +68,7 @@ impl<T, A: Allocator> SlabMut<T> for OddSlab<T, A> {
     ghost use Rattle.std.proofs.Common.{refl};
     ghost use Rattle.std.specs.Mem.{FitsInMemory};
     ghost use Rattle.btree_more_stores.specs.Odd.{with_odd_value};
-    ghost use Rattle.btree_more_stores.specs.OddLaws.{odd-write};
+    ghost use Rattle.btree_more_stores.proofs.OddLaws.{odd-write};
 
     type Origin = A;
 

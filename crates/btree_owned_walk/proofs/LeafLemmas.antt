@@ -1,7 +1,7 @@
 -- A step at a node that is a leaf: the item is taken from the node that was fetched.
 use Rattle.btree_owned_walk.proofs.Common.{◌≡◌, ◌<◌, ℕ, Some, None, refl, sym, ap, slice_get, option_map, Node, view_of, View, leaf, internal, NodeMap, children_of, size_of, TreeState, node_map, writes_node, with_node, LastGone, IsClimbing, ReleasesSpent}
 use Rattle.std.specs.FinMap as map
-use Rattle.btree_store.specs.ContentLaws.{insert-same}
+use Rattle.btree_store.proofs.ContentLaws.{insert-same}
 use Rattle.btree_owned_walk.specs.Ends.{HasFirst, HasLast}
 use Rattle.btree_owned_walk.proofs.StepLemmas.{bare-leaf, releasing-start, releasing-stops, spent-count}
 

@@ -3,7 +3,7 @@ use Rattle.std.specs.Prelude.{map as list_map}
 use Rattle.btree_owned_walk.proofs.Common.{◌≡◌, ◌≢◌, ◌<◌, ◌≤◌, inl, inr, ℕ, zero, suc, ◌+◌, List, [], ◌∷◌, ◌++◌, length, Option, Some, None, refl, sym, ap, subst, ◌∙◌, arith, slice_get, option_map, same_Some, Content, Node, view_of, View, leaf, internal, NodeMap, children_of, parent_of, size_of, HasChildFor, pushed_left, Subtree, id_of, items_under, later_items, times_under, view_at, TreeState, node_map, views, zero-or, writes_node, with_node, HasAny, FirstGone, HoldsRest, HoldsDownTo, OnFirst, OnLast, AtFirst, AreApart, IsRest, without_first, IsClimbing, ReleasesSpent, StandsAtFront, TakesFirst}
 use Rattle.std.proofs.Common.{false, IsTrue, IsSome}
 use Rattle.std.specs.FinMap as map
-use Rattle.btree_store.specs.ContentLaws.{get-remove_other, get-remove_same, insert-remove, len-insert_unused}
+use Rattle.btree_store.proofs.ContentLaws.{get-remove_other, get-remove_same, insert-remove, len-insert_unused}
 use Rattle.btree_item.specs.declared.TheConstants.{MAX_LEVELS}
 use Rattle.btree_view.specs.View.{items_of}
 use Rattle.btree_laws.specs.TreeState.{KeepsRest}

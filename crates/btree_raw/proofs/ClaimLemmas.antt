@@ -2,7 +2,7 @@
 use Rattle.btree_raw.proofs.Common.{◌≡◌, ◌≢◌, ℕ, zero, suc, ◌<◌, ◌^◌, ◌-◌, ◌++◌, ◌∷◌, [], inl, inr, List, Some, None, IsSome, refl, sym, ap, subst, ◌∙◌, option_map, arith, Content, get-insert_other, EMPTY, view_of, Node, one, Claims, views, times_used, same-or, one-other, one-self}
 use Rattle.std.proofs.Common.{All}
 use Rattle.std.specs.FinMap as map
-use Rattle.btree_store.specs.ContentLaws.{get-insert_same, remove-insert}
+use Rattle.btree_store.proofs.ContentLaws.{get-insert_same, remove-insert}
 use Rattle.btree_raw.specs.Claimed.{with_claims, AreClaims, IsClaimed}
 
 module _ {N : Type 0} (empty : N) where

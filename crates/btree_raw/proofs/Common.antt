@@ -41,6 +41,6 @@ pub use Rattle.btree_raw.specs.Steps.{AddsItem, CanAddItem, CutsAtMedian, HasCou
 pub use Rattle.btree_raw.specs.Underflow.{AreFixed, IsFollowed, PassesUnderflowUp, EndsUnderflow, AreAdjacent, FitTogether, Underflows}
 pub use Rattle.btree_raw.specs.declared.moved.siblings.Siblings.{Siblings}
 pub use Rattle.btree_store.specs.Content.{Content}
-pub use Rattle.btree_store.specs.ContentLaws.{get-insert_other}
+pub use Rattle.btree_store.proofs.ContentLaws.{get-insert_other}
 pub use Rattle.btree_view.specs.Edits.{HasChildFor, is_internal, IsSplit, with_item, without, with_parent}
 pub use Rattle.btree_view.specs.View.{View, NodeMap, leaf, internal, children_in, children_of, most_of, size_of, item_in, items_of, parent_of}

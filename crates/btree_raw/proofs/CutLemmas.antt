@@ -1,7 +1,7 @@
 -- A node that is written, and then cut if it has an item too many.
 use Rattle.btree_raw.proofs.Common.{◌≡◌, ◌∙◌, ◌∷◌, ◌++◌, [], ℕ, ◌≤◌, List, Option, Some, ap, option_map, refl, subst, sym, Content, Node, view_of, IsSplit, NodeMap, View, most_of, parent_of, size_of, Splits, views, writes_node, CutsAtMedian, HasCount, Overflows}
 use Rattle.std.specs.FinMap as map
-use Rattle.btree_store.specs.ContentLaws.{insert-same}
+use Rattle.btree_store.proofs.ContentLaws.{insert-same}
 use Rattle.btree_view.specs.Edits.{IsOverflowing}
 use Rattle.btree_raw.specs.OverflowSplit.{CutsNode, StaysWhole}
 use Rattle.btree_raw.specs.Steps.{CanCut, LeavesPart}

@@ -1,7 +1,7 @@
 -- The walk down to the rightmost leaf under a node, and the last item taken there.
 use Rattle.btree_raw.proofs.Common.{◌≡◌, ◌∙◌, ◌-◌, ◌<◌, ◌^◌, ℕ, suc, inl, List, length, Option, Some, None, refl, sym, ap, subst, arith, option_map, slice_get, length-map, IsTotalOrder, remove, Ordering, Node, view_of, View, leaf, internal, children_in, children_of, item_in, size_of, IsPlace, WritesNode, TreeState, IsUsed, node_map, pairs_of, IsOffByOne, IsWellFormed, is-off, writes_node, with_node}
 use Rattle.std.specs.FinMap as finite
-use Rattle.btree_store.specs.ContentLaws.{insert-same}
+use Rattle.btree_store.proofs.ContentLaws.{insert-same}
 use Rattle.btree_view.specs.Edits.{without_last}
 use Rattle.btree_view.specs.View.{last_child_of, last_item_of}
 use Rattle.btree_view.proofs.RemovalLemmas.{leaf-from_no_child}

@@ -5,7 +5,7 @@ use Rattle.std.proofs.lemmas.List.{length-set, map-append}
 use Rattle.std.proofs.lemmas.Slice.Zip.{firsts-zip, seconds-zip}
 use Rattle.std.specs.FinMap as nodes_map
 use Rattle.std.specs.Option.{option_and_then}
-use Rattle.btree_store.specs.ContentLaws.{get-remove_other, get-remove_same}
+use Rattle.btree_store.proofs.ContentLaws.{get-remove_other, get-remove_same}
 use Rattle.btree_item.specs.Offset.{index_offset}
 use Rattle.btree_view.specs.Edits.{HaveRoom, joined, pushed_left, pushed_right, with_other_item, with_other_item_at}
 use Rattle.btree_laws.specs.SiblingSteps.{IsRemade, ShrinksRoot}

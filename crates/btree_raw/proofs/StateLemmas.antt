@@ -2,7 +2,7 @@
 use Rattle.btree_raw.proofs.Common.{◌≡◌, ◌↔◌, ℕ, Option, Some, None, IsSome, refl, sym, ap, ◌∙◌, arith, Content, get-insert_other, Node, Address, View, item_in, KeepsRest, TreeState, node_map, views, used-one, used-view}
 use Rattle.std.proofs.Common.{Bor, option_and_then, option_copied}
 use Rattle.std.specs.FinMap as map
-use Rattle.btree_store.specs.ContentLaws.{get-remove_other, get-remove_same, is_remove}
+use Rattle.btree_store.proofs.ContentLaws.{get-remove_other, get-remove_same, is_remove}
 use Rattle.btree_laws.specs.Place.{IsOccupied}
 use Rattle.btree_laws.specs.TreeState.{IsOccupiedIn, Kept, item_of}
 

@@ -28,7 +28,7 @@ pub use Rattle.btree_internal.specs.InternalLends
 pub use Rattle.btree_item.specs.Address
 pub use Rattle.btree_item.specs.Comparisons
 pub use Rattle.btree_item.specs.Item
-pub use Rattle.btree_item.specs.KeyLaws
+pub use Rattle.btree_item.proofs.KeyLaws
 pub use Rattle.btree_item.specs.Keys
 pub use Rattle.btree_item.specs.Offset
 pub use Rattle.btree_item.specs.Pairs
@@ -97,10 +97,10 @@ pub use Rattle.btree_laws.specs.Step
 pub use Rattle.btree_laws.specs.TreeAddresses
 pub use Rattle.btree_laws.specs.TreeState
 pub use Rattle.btree_store.specs.Content
-pub use Rattle.btree_store.specs.SlotLaws
+pub use Rattle.btree_store.proofs.SlotLaws
 pub use Rattle.btree_more_stores.specs.Gated
 pub use Rattle.btree_more_stores.specs.Odd
-pub use Rattle.btree_more_stores.specs.OddLaws
+pub use Rattle.btree_more_stores.proofs.OddLaws
 pub use Rattle.btree_more_stores.specs.Table
 pub use Rattle.btree_fixed.specs.Capacity
 pub use Rattle.btree_fixed.specs.From

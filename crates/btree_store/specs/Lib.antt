@@ -1,3 +1,1 @@
 pub mod Content
-pub mod ContentLaws
-pub mod SlotLaws

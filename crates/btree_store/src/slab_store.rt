@@ -1,5 +1,5 @@
 //! A store over the crate `slab`.
-#![tactic(auto, using(crate::specs::SlotLaws::slots))]
+#![tactic(auto, using(crate::proofs::SlotLaws::slots))]
 
 ghost use Rattle.std.specs.Prelude.{◌≡◌, ℕ, ◌+◌, ◌<◌, Some, None, IsSome, IfOk, IfErr, OnOk, OnErr, OnSome, option_copied};
 ghost use Rattle.std.specs.FinMap as map;
@@ -44,7 +44,7 @@ impl<T, A: Allocator> SlabMut<T> for SlabStore<T, A> {
     ghost use Rattle.slab.specs.Slab.{with_value};
     ghost use Rattle.std.proofs.Common.{refl};
     ghost use Rattle.std.specs.Mem.{FitsInMemory};
-    ghost use Rattle.btree_store.specs.SlotLaws.{content-written};
+    ghost use Rattle.btree_store.proofs.SlotLaws.{content-written};
 
     type Origin = A;
 

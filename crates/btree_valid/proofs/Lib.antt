@@ -2,6 +2,7 @@
 -- OffByOneLemmas, or one that is off by one at the node that is exempt; NameLemmas, the fault that is answered is the first one; `readable` in
 -- ReadLaws, what a reader may rest on where no check fails.
 pub mod Common
+pub mod ListedLaws
 pub mod ChildLemmas
 pub mod VerdictLemmas
 pub mod SuitsLemmas

@@ -5,7 +5,7 @@ use Rattle.std.specs.Cmp.{nat_cmp_total}
 use Rattle.std.specs.FinMap.{get, insert, len, len-insert, remove}
 use Rattle.std.specs.Ordering.{ordering_reverse}
 use Rattle.std.specs.declared.cmp.Ordering.TheVariants.{Equal, Greater}
-use Rattle.btree_store.specs.ContentLaws.{get-remove_other, get-remove_same, is_insert}
+use Rattle.btree_store.proofs.ContentLaws.{get-remove_other, get-remove_same, is_insert}
 use Rattle.btree_laws.specs.Lists.{one}
 use Rattle.btree_laws.proofs.Paths.Frames.{total-append}
 use Rattle.btree_laws.proofs.Trees.Numbers.{used-low, used-some}

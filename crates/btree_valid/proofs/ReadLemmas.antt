@@ -6,7 +6,7 @@ use Rattle.std.proofs.lemmas.List.{length-map}
 use Rattle.std.specs.FinMap as finite
 use Rattle.std.specs.Prelude.{IsSome}
 use Rattle.btree_item.proofs.PairEdits.{Ascends-none}
-use Rattle.btree_valid.specs.ListedLaws.{numbers-met}
+use Rattle.btree_valid.proofs.ListedLaws.{numbers-met}
 use Rattle.btree_valid.specs.PositionLaws.{ok-or-err}
 use Rattle.btree_valid.specs.Positions.{IsLeafAt, IsVerdictAt, PassesOwn, position_faults}
 use Rattle.btree_valid.specs.Verdicts.{HasNoFaultUnder, items_met}

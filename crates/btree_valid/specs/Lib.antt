@@ -1,7 +1,6 @@
 pub mod OffByOne
 pub mod Positions
 pub mod PositionLaws
-pub mod ListedLaws
 pub mod Names
 pub mod Verdicts
 pub mod Faults

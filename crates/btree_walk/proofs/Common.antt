@@ -10,7 +10,7 @@ pub use Rattle.std.specs.declared.cmp.Ordering.{Ordering}
 pub use Rattle.std.specs.declared.cmp.Ordering.TheVariants.{Equal, Less, Greater}
 pub use Rattle.std.specs.declared.ops.Bound.{Bound}
 pub use Rattle.std.specs.declared.ops.Bound.TheVariants.{Included, Unbounded}
-pub use Rattle.btree_item.specs.KeyLaws.{cuts_of}
+pub use Rattle.btree_item.proofs.KeyLaws.{cuts_of}
 pub use Rattle.btree_item.specs.Pairs.{place_of}
 pub use Rattle.btree_laws.proofs.LookUp.KeyInList.{AreAbove, AreBelow, Rises, rises-right, searched, side, rises-left, ascends, rises}
 pub use Rattle.btree_laws.proofs.LookUp.Walk.{under-internal, under-leaf, Inside, remaining-push}

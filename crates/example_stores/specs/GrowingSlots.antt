@@ -4,7 +4,7 @@ use Rattle.std.proofs.lemmas.List.{get_or_past, get_or_push}
 use Rattle.std.specs.FinMap.{get, insert}
 use Rattle.std.specs.Vec.{with_item}
 use Rattle.btree_store.specs.Content.{Content, content_from}
-use Rattle.btree_store.specs.SlotLaws.{content-empty, content-insert, content-written, get-content, len-content, used_within}
+use Rattle.btree_store.proofs.SlotLaws.{content-empty, content-insert, content-written, get-content, len-content, used_within}
 
 -- the values in a vector of slots, each under the number of its slot
 abbrev pub content_of : {T Z : Type 0} → Vec (Option T) Z → Content T

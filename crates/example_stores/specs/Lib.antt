@@ -1,3 +1,2 @@
 pub mod GrowingSlots
 pub mod Lends
-pub mod OnePlaceLaws

@@ -1,9 +1,9 @@
 //! A store of one place.
-#![tactic(auto, using(crate::specs::OnePlaceLaws::one_place))]
+#![tactic(auto, using(crate::proofs::OnePlaceLaws::one_place))]
 
 ghost use Rattle.std.specs.Prelude.{◌≡◌, ◌≤◌, Some};
 ghost use Rattle.std.specs.FinMap as map;
-ghost use Rattle.example_stores.specs.OnePlaceLaws.{one_content};
+ghost use Rattle.example_stores.proofs.OnePlaceLaws.{one_content};
 
 use btree_steps::Steps;
 use btree_store::{Slab, SlabMut};
@@ -43,7 +43,7 @@ impl<T> Slab<T> for OnePlace<T> {
 impl<T> SlabMut<T> for OnePlace<T> {
     ghost use Rattle.std.proofs.Common.{refl};
     ghost use Rattle.std.specs.Mem.{FitsInMemory};
-    ghost use Rattle.example_stores.specs.OnePlaceLaws.{one-written};
+    ghost use Rattle.example_stores.proofs.OnePlaceLaws.{one-written};
 
     type Origin = ();
 

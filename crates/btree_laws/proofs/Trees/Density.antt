@@ -5,7 +5,7 @@ use Rattle.std.proofs.Common.{mul-le-mul_right}
 use Rattle.std.proofs.Math.Nat.{pow-le-pow_right, pow-succ'}
 use Rattle.std.specs.Cmp.{nat_cmp_total}
 use Rattle.std.specs.FinMap.{empty, get, get-empty, insert, len-empty, len-insert, remove}
-use Rattle.btree_store.specs.ContentLaws.{get-remove_other, get-remove_same, is_insert, same_content}
+use Rattle.btree_store.proofs.ContentLaws.{get-remove_other, get-remove_same, is_insert, same_content}
 use Rattle.btree_laws.proofs.Paths.Frames.{one-other, one-self}
 use Rattle.btree_laws.proofs.Trees.Numbers.{less-or, same-or, used-low, used-mapped, used-none, used-some}
 use Rattle.btree_laws.proofs.Paths.FromRoot.{rooted-subtree}

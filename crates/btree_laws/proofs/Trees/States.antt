@@ -2,7 +2,7 @@
 use Rattle.btree_laws.proofs.Common.{◌≡◌, ℕ, zero, suc, ◌+◌, ◌*◌, ◌<◌, ◌≤◌, List, [], ◌++◌, length, map, Option, Some, None, refl, sym, ap, subst, ◌∙◌, arith, length-append, nat_cmp, flat_map, Ordering, Content, NodeMap, View, children_in, Represents, numbers_under, IsFormed, IsOffByOne, IsRooted, IsWellFormed}
 use Rattle.std.proofs.Common.{option_map}
 use Rattle.std.specs.FinMap as finite
-use Rattle.btree_store.specs.ContentLaws.{same_content}
+use Rattle.btree_store.proofs.ContentLaws.{same_content}
 use Rattle.btree_item.proofs.PairEdits.{Ascends-none}
 use Rattle.btree_node.specs.Node.{view_of}
 use Rattle.btree_node.specs.declared.node.Node.{Node}

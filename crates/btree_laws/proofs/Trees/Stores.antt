@@ -2,7 +2,7 @@
 use Rattle.btree_laws.proofs.Common.{◌≡◌, ℕ, ◌<◌, ◌≤◌, List, length, Option, Some, None, IsSome, refl, sym, ap, ◌∙◌, option_and_then, arith, Content, Address, View, leaf, internal, items_of, item_in, most_of, NodeMap, item_at, IsWithin, times_listed, WritesNode, times_used}
 use Rattle.std.proofs.Common.{option_map, slice_get}
 use Rattle.std.specs.FinMap as map
-use Rattle.btree_store.specs.ContentLaws.{get-insert_same, get-insert_other}
+use Rattle.btree_store.proofs.ContentLaws.{get-insert_same, get-insert_other}
 use Rattle.btree_node.specs.declared.node.Node.{Node}
 use Rattle.btree_node.specs.Node.{view_of}
 use Rattle.btree_laws.specs.TreeState.{views}

@@ -1,5 +1,5 @@
 //! Two callers over any store, proved by its promises alone.
-#![tactic(auto, using(crate::specs::ContentLaws::stores))]
+#![tactic(auto, using(crate::proofs::ContentLaws::stores))]
 
 ghost use Rattle.std.specs.Prelude.{◌≡◌, ℕ, ◌+◌, ◌<◌, ◌↔◌, Some, None, false, IsTrue, IsSome, IfSome, IfNone, OnSome, MatchOption};
 ghost use Rattle.std.specs.FinMap as map;

@@ -1,5 +1,5 @@
 use Rattle.btree_raw.proofs.Common.{refl, arith, rules, EMPTY, common_steps}
-use Rattle.btree_store.specs.ContentLaws.{get-insert_same}
+use Rattle.btree_store.proofs.ContentLaws.{get-insert_same}
 use Rattle.btree_raw.proofs.OnlyLemmas.{len-of, only-inserted, only-refused}
 use Rattle.btree_raw.proofs.StateLemmas.{same-len}
 use Rattle.btree_raw.proofs.insertion.insert_only.Goals as goal

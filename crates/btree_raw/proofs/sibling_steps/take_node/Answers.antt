@@ -1,5 +1,5 @@
 use Rattle.btree_raw.proofs.Common.{◌∙◌}
-use Rattle.btree_store.specs.ContentLaws.{insert-used}
+use Rattle.btree_store.proofs.ContentLaws.{insert-used}
 use Rattle.btree_raw.proofs.StateLemmas.{remove-written}
 use Rattle.btree_raw.proofs.sibling_steps.take_node.Goals as goal
 

@@ -2,7 +2,7 @@ use Rattle.std.proofs.Common.{arith}
 use Rattle.std.specs.Cmp.{IsTotalOrder, nat_cmp_total, on_total}
 use Rattle.std.specs.Ordering.{nat_cmp, on}
 use Rattle.std.specs.declared.cmp.Ordering.{Ordering}
-use Rattle.btree_item.specs.KeyLaws.{cuts_of}
+use Rattle.btree_item.proofs.KeyLaws.{cuts_of}
 use Rattle.test_support.specs.declared.counted.Counted.{Counted}
 use Rattle.btree_find.proofs.CountLemmas.{counts-begin, counts-down, counts-hit, counts-miss}
 use Rattle.btree_find.proofs.SearchLemmas.{down, node-ascends, node-used, search-begins}

@@ -1,6 +1,6 @@
 use Rattle.btree_item.proofs.Common.{Ordering, ◌≡◌, refl, ◌∙◌, ap, Less, Equal, Greater, is_lt, is_some_and}
 use Rattle.std.specs.Ordering.{is_le}
-use Rattle.btree_item.specs.KeyLaws.{side_after}
+use Rattle.btree_item.proofs.KeyLaws.{side_after}
 use Rattle.btree_item.proofs.query.AfterFirstQueryTuple2.is_after.Goals as goal
 
 -- a key is at most a query where it is before the place after that

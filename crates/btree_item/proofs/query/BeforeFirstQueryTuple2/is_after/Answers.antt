@@ -1,5 +1,5 @@
 use Rattle.btree_item.proofs.Common.{Ordering, ◌≡◌, refl, ◌∙◌, ap, Less, Equal, Greater, is_lt, is_some_and}
-use Rattle.btree_item.specs.KeyLaws.{side_before}
+use Rattle.btree_item.proofs.KeyLaws.{side_before}
 use Rattle.btree_item.proofs.query.BeforeFirstQueryTuple2.is_after.Goals as goal
 
 -- a key is below a query where it is before the place before that

@@ -1,5 +1,5 @@
 use Rattle.std.proofs.Common.{ap, sym, is_some, refl}
-use Rattle.btree_store.specs.SlotLaws.{get-content}
+use Rattle.btree_store.proofs.SlotLaws.{get-content}
 use Rattle.btree_more_stores.proofs.TableLemmas.{table-write}
 use Rattle.btree_more_stores.proofs.fixed_slab.FixedSlabSlabMut.get_mut.Goals as goal
 

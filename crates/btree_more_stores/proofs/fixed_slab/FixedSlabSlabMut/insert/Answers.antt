@@ -1,6 +1,6 @@
 use Rattle.std.proofs.Common.{◌≡◌, ℕ, ◌<◌, IsSome, None, inl, inr, arith}
 use Rattle.std.proofs.lemmas.Bool.{cases_lt, false≢true}
-use Rattle.btree_store.specs.SlotLaws.{get-content, content-fill}
+use Rattle.btree_store.proofs.SlotLaws.{get-content, content-fill}
 use Rattle.btree_more_stores.proofs.TableLemmas.{table-low, table-vacant, table-refill, table-fresh, table-full, table-holds}
 use Rattle.btree_more_stores.proofs.fixed_slab.FixedSlabSlabMut.insert.Goals as goal
 

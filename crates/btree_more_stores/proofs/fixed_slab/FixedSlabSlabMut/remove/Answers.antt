@@ -1,4 +1,4 @@
-use Rattle.btree_store.specs.SlotLaws.{content-empty}
+use Rattle.btree_store.proofs.SlotLaws.{content-empty}
 use Rattle.btree_more_stores.proofs.TableLemmas.{table-remove, used_within}
 use Rattle.btree_more_stores.proofs.fixed_slab.FixedSlabSlabMut.remove.Goals as goal
 

@@ -1,5 +1,5 @@
 use Rattle.std.proofs.Common.{arith, ◌<◌, ◌≤◌, length}
-use Rattle.btree_store.specs.SlotLaws.{used_within}
+use Rattle.btree_store.proofs.SlotLaws.{used_within}
 use Rattle.btree_store.proofs.slab_store.SlabStoreSlab.len.Goals as goal
 
 pub returns-clause-numbers : goal.returns-clause-numbers

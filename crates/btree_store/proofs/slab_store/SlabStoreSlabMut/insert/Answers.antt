@@ -1,4 +1,4 @@
-use Rattle.btree_store.specs.SlotLaws.{content-insert}
+use Rattle.btree_store.proofs.SlotLaws.{content-insert}
 use Rattle.btree_store.proofs.slab_store.SlabStoreSlabMut.insert.Goals as goal
 
 pub returns-in-Ok-clause-stored : goal.returns-in-Ok-clause-stored

@@ -1,4 +1,4 @@
-use Rattle.btree_store.specs.SlotLaws.{content-remove}
+use Rattle.btree_store.proofs.SlotLaws.{content-remove}
 use Rattle.btree_store.proofs.slab_store.SlabStoreSlabMut.remove.Goals as goal
 
 pub returns-clause-removed : goal.returns-clause-removed

@@ -5,7 +5,7 @@ use Rattle.std.proofs.lemmas.List.Sums.{sum_by-cons}
 use Rattle.std.specs.Ordering.{nat_cmp}
 use Rattle.std.specs.FinMap.{get, insert, remove, len, get-empty, len-empty}
 use Rattle.btree_store.specs.Content.{content_from}
-use Rattle.btree_store.specs.ContentLaws.{get-insert_same, get-insert_other, is_insert, is_remove, len-insert_unused}
+use Rattle.btree_store.proofs.ContentLaws.{get-insert_same, get-insert_other, is_insert, is_remove, len-insert_unused}
 
 module _ {T : Type 0} where
   get_below : (first : ℕ) (slots : List (Option T)) (q : ℕ) → q < first → get (content_from first slots) q ≡ None

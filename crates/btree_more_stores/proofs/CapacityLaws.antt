@@ -4,7 +4,7 @@ use Rattle.std.proofs.Common.{◌≡◌, ◌≤◌, ◌↔◌, ℕ, None, Result
 use Rattle.std.proofs.lemmas.Bool.{false≢true}
 use Rattle.std.specs.FinMap.{get, len}
 use Rattle.btree_store.specs.Content.{Content, Gains}
-use Rattle.btree_store.specs.ContentLaws.{len-insert_unused}
+use Rattle.btree_store.proofs.ContentLaws.{len-insert_unused}
 
 module _ {T E : Type 0} (places : ℕ) (old new : Content T) (value : T) where
   -- a full store refuses: with one value more it would hold too many

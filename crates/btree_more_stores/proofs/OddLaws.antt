@@ -7,8 +7,8 @@ use Rattle.std.specs.Ordering.{nat_cmp}
 use Rattle.std.specs.Cmp.{nat_cmp_total}
 use Rattle.std.specs.FinMap.{get, insert, remove, empty, len, get-empty, len-empty, len-insert, contains_key}
 use Rattle.btree_store.specs.Content.{content_from}
-use Rattle.btree_store.specs.ContentLaws.{get-insert_same, get-insert_other, get-remove_same, get-remove_other, same_content, is_insert, is_remove, remove-insert}
-use Rattle.btree_store.specs.SlotLaws.{get-content, content-fill, len-content, some_within}
+use Rattle.btree_store.proofs.ContentLaws.{get-insert_same, get-insert_other, get-remove_same, get-remove_other, same_content, is_insert, is_remove, remove-insert}
+use Rattle.btree_store.proofs.SlotLaws.{get-content, content-fill, len-content, some_within}
 use Rattle.btree_more_stores.specs.Odd.{ODD_NUMBERS, odd_number, slot_of, IsNumberOf, odd_content_from, AreNumbered, HasOddNumbers}
 
 -- the slot of any number has an odd number

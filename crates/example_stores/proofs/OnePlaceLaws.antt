@@ -2,7 +2,7 @@
 use Rattle.std.proofs.Common.{◌≡◌, ◌≢◌, ◌<◌, ℕ, zero, suc, [], ◌∷◌, Option, Some, None, IsSome, refl, arith}
 use Rattle.std.specs.FinMap.{get, insert, remove, len}
 use Rattle.btree_store.specs.Content.{Content, content_from}
-use Rattle.btree_store.specs.SlotLaws.{content-empty, content-fill, content-written, get-content, len-content, used_within}
+use Rattle.btree_store.proofs.SlotLaws.{content-empty, content-fill, content-written, get-content, len-content, used_within}
 
 -- the value in the slot, under the number 0
 abbrev pub one_content : {T : Type 0} → Option T → Content T
