@@ -1,5 +1,5 @@
 use Rattle.btree_valid.proofs.Common.{◌≡◌, ◌∙◌, Some, ap, arith, inl, inr, refl, subst, sym, err_from_is_err_and, NamesTree}
-use Rattle.btree_valid.proofs.EnterLemmas.{parent-same, same-parent}
+use Rattle.btree_valid.proofs.NodeLemmas.{parent-same, same-parent}
 use Rattle.btree_valid.proofs.faults.validate.Goals as goal
 
 pub returns-in_err-after-clause-accepts : goal.returns-in_err-after-clause-accepts
