@@ -12,26 +12,27 @@ use Rattle.btree_valid.proofs.VerdictLemmas.{key-ends}
 same-number : (m n : ℕ) → eqb m n ≡ true → m ≡ n
 same-number m n e = grind (arith, nat_tests)
 
-number-same : (m n : ℕ) → m ≡ n → eqb m n ≡ true
-number-same m n e = grind (arith, nat_tests)
+-- a test of two options, and one that is turned
+pub same-option : (a b : Option ℕ) → option_eq eqb a b ≡ true → a ≡ b
+same-option None None e = refl
+same-option None (Some n) e = absurd (cc)
+same-option (Some m) None e = absurd (cc)
+same-option (Some m) (Some n) e = ap Some (same-number m n e)
+
+pub option-same : (a b : Option ℕ) → a ≡ b → option_eq eqb a b ≡ true
+option-same None None same = refl
+option-same None (Some n) same = absurd (cc)
+option-same (Some m) None same = absurd (cc)
+option-same (Some m) (Some n) same = let is : m ≡ n = cc in grind (arith, nat_tests)
 
 pub same-parent : (a b : Option ℕ) → false ≡ not (option_eq eqb a b) → a ≡ b
-same-parent None None e = refl
-same-parent None (Some n) e = absurd (cc)
-same-parent (Some m) None e = absurd (cc)
-same-parent (Some m) (Some n) e = ap Some (same-number m n (by (eqb m n) e)) where
+same-parent a b e = same-option a b (by (option_eq eqb a b) e) where
   by : (c : _) → false ≡ not c → c ≡ true
   by true f = refl
   by false f = absurd (cc)
 
 pub parent-same : (a b : Option ℕ) → true ≡ not (option_eq eqb a b) → a ≡ b → ⊥
-parent-same None None e same = absurd (cc)
-parent-same None (Some n) e same = absurd (cc)
-parent-same (Some m) None e same = absurd (cc)
-parent-same (Some m) (Some n) e same =
-    let is : m ≡ n = cc in
-    let q = number-same m n is in
-    absurd (cc)
+parent-same a b e same = let yes = option-same a b same in absurd (cc)
 
 module _ {K V : Type 0} (cmp : K → K → Ordering) where
   -- keys of which each is above the one before it are in order, and above the first

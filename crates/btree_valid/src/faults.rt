@@ -271,9 +271,9 @@ pub fn is_off_by_one<K: Ord, V, C: Nodes<K, V>>(nodes: &C, root: usize, exempt: 
     requires { FitsInMemory (node_row K.row V.row) }
     ensures { IsTrue result ↔ IsOffByOneAmong K.cmp (C.content nodes.now) root exempt }
 {
-    if nodes.get(exempt).is_none() {
+    let Some(_) = nodes.get(exempt) else {
         return false;
-    }
+    };
     let start = Met {
         leaf_level: None,
         items: None,
