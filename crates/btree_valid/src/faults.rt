@@ -17,7 +17,7 @@ ghost use Rattle.btree_valid.specs.Positions.{nearest_of};
 ghost use Rattle.btree_valid.specs.Spots.{BlamesAt, CanMeet, FindsAt, FindsTree, IsFewer, IsNearestAfter, IsNearestBefore, MeetsAt, MeetsLeaf, MeetsTree, PassesAtSpot, WasMore};
 ghost use Rattle.btree_valid.specs.Verdicts.{IsVerdict, NamesTree};
 
-use crate::off_by_one::{Exempt, check_nearly};
+use crate::off_by_one::{Exempt, check_off_by_one};
 use btree_item::{Fault, MAX_LEVELS};
 use btree_node::{Node, Nodes};
 
@@ -130,7 +130,7 @@ fn check_node<'a, K: Ord, V>(
         → GivesNodeVerdict K.cmp spot.now.parent spot.now.min spot.now.max (view_of node.now) result }
 {
     match exempt {
-        Some(exempt) => check_nearly(node, exempt, spot.id, spot.parent, spot.min, spot.max),
+        Some(exempt) => check_off_by_one(node, exempt, spot.id, spot.parent, spot.min, spot.max),
         None => node.validate(spot.parent, spot.min, spot.max),
     }
 }

@@ -89,7 +89,7 @@ fn ends_below<K: Ord, V>(node: &Node<K, V>, max: Option<&K>) -> bool
 
 // Checks a node of a tree that may be off by one: its parent, its number of items, and its keys, also against the nearest separators on
 // both sides.
-pub(crate) fn check_nearly<'a, K: Ord, V>(
+pub(crate) fn check_off_by_one<'a, K: Ord, V>(
     node: &'a Node<K, V>,
     exempt: Exempt,
     id: usize,

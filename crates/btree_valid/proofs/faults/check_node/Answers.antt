@@ -4,7 +4,7 @@ use Rattle.btree_valid.proofs.VerdictLemmas.{node-ok}
 use Rattle.btree_valid.proofs.faults.check_node.Goals as goal
 
 pub returns-in-Some-clause-passes : goal.returns-in-Some-clause-passes
-returns-in-Some-clause-passes g c = rw c.in-Some.is c.check_nearly.ensures
+returns-in-Some-clause-passes g c = rw c.in-Some.is c.check_off_by_one.ensures
 
 pub returns-in-None-clause-passes : goal.returns-in-None-clause-passes
 returns-in-None-clause-passes g c = rw c.in-None.is (

@@ -1,6 +1,6 @@
 use Rattle.btree_valid.proofs.Common.{◌∙◌, arith, option_copied, sym, view_of, refl}
 use Rattle.btree_valid.proofs.NodeLemmas.{nearly-below, nearly-from, nearly-passes, parent-same, same-parent}
-use Rattle.btree_valid.proofs.off_by_one.check_nearly.Goals as goal
+use Rattle.btree_valid.proofs.off_by_one.check_off_by_one.Goals as goal
 
 pub returns-then-ne : goal.returns-then-ne
 returns-then-ne g c = (λ ok. absurd (cc), λ p. absurd (parent-same c.parent.result c.args.parent c.if-ne.ensures (c.parent.ensures.value ∙ p.parent_is)))
