@@ -1,5 +1,5 @@
 -- What the walk of the validator has found at a node, and after each of its children.
-use Rattle.btree_valid.proofs.Common.{◌≡◌, ◌≤◌, ◌<◌, ◌∷◌, ◌++◌, [], ◌∙◌, ◌+◌, ℕ, zero, suc, inl, inr, List, length, length-append, map, is_some, true, false, Option, Some, Result, Ok, Err, option_copied, slice_get, refl, sym, ap, subst, arith, IsTotalOrder, ⊤, IfSome, Ordering, Fault, Node, Content, separator_after, separator_before, View, children_of, internal, leaf, size_of, total, Subtree, id_of, items_under, views, Rises, ascends, AreBetween, nearest_of, CanMeet, FindsAt, Suits, Exempt, IsSizedNode, PassesNode, items_of, rises, Met, Spot}
+use Rattle.btree_valid.proofs.Common.{◌≡◌, ◌≤◌, ◌<◌, ◌∷◌, ◌++◌, [], ◌∙◌, ◌+◌, ℕ, zero, suc, inl, inr, List, length, length-append, map, is_some, true, false, Option, Some, Result, Ok, Err, option_copied, slice_get, refl, sym, ap, subst, arith, IsTotalOrder, IfSome, Ordering, Fault, Node, Content, separator_after, separator_before, View, children_of, internal, leaf, size_of, total, Subtree, id_of, items_under, views, Rises, ascends, AreBetween, nearest_of, CanMeet, FindsAt, Suits, Exempt, IsSizedNode, PassesNode, items_of, rises, Met, Spot}
 use Rattle.std.proofs.lemmas.List.{length-map}
 use Rattle.std.proofs.lemmas.Option.{slice_get_within}
 use Rattle.std.specs.Option.{option_map}

@@ -1,5 +1,5 @@
 -- What the walk of the validator has met at a node, and after each of its children.
-use Rattle.btree_valid.proofs.Common.{◌≡◌, ◌≤◌, ◌<◌, ◌∷◌, [], ◌∙◌, ◌+◌, ℕ, zero, suc, List, length, drop, is_some, true, false, Some, None, Result, Ok, Err, option_copied, slice_get, refl, sym, ap, subst, arith, ⊤, IfSome, Ordering, Fault, Node, Content, separator_after, separator_before, View, children_of, size_of, total, Subtree, count_at, items_under, view_at, numbers_under, views, top-view, view-size, nearest_of, BeginsAt, CanMeet, MeetsAt, Suits, PassesNode, Exempt, Option, Met, Spot}
+use Rattle.btree_valid.proofs.Common.{◌≡◌, ◌≤◌, ◌<◌, ◌∷◌, [], ◌∙◌, ◌+◌, ℕ, zero, suc, List, length, drop, is_some, true, false, Some, None, Result, Ok, Err, option_copied, slice_get, refl, sym, ap, subst, arith, IfSome, Ordering, Fault, Node, Content, separator_after, separator_before, View, children_of, size_of, total, Subtree, count_at, items_under, view_at, numbers_under, views, top-view, view-size, nearest_of, BeginsAt, CanMeet, MeetsAt, Suits, PassesNode, Exempt, Option, Met, Spot}
 use Rattle.std.proofs.Math.ListN.{drop_of_length-le}
 use Rattle.btree_valid.specs.Spots.{HasMet, IsFewer, Meets, PassesAtSpot}
 use Rattle.btree_valid.proofs.SuitsLemmas.{ChildAt, all-suit, child-at, items-total, numbers-total, numbers_in, parts-count, parts_under}

@@ -1,8 +1,7 @@
 -- The walk decides whether the tree is off by one at a node.
-use Rattle.btree_valid.proofs.Common.{◌≡◌, ◌∙◌, ◌+◌, ◌<◌, ℕ, length, Option, Some, None, Result, Ok, Err, option_copied, option_map, refl, sym, ap, subst, arith, IsTotalOrder, Ordering, Ascends, Fault, view_of, Node, Content, View, Subtree, id_of, items_under, Represents, numbers_under, views, times_listed, times_used, used-one, numbers-subtree, represents-of, BeginsAt, CanMeet, MeetsAt, FindsAt, Suits, Exempt, Met, Spot}
+use Rattle.btree_valid.proofs.Common.{◌≡◌, ◌∙◌, ◌+◌, ℕ, length, Option, Some, None, Result, Ok, option_copied, option_map, sym, ap, subst, arith, IsTotalOrder, Ordering, Ascends, Fault, view_of, Node, Content, id_of, items_under, Represents, numbers_under, views, times_listed, times_used, used-one, numbers-subtree, represents-of, BeginsAt, CanMeet, MeetsAt, FindsAt, Suits, Exempt, Met, Spot}
 use Rattle.std.proofs.Common.{IsSome}
 use Rattle.std.specs.FinMap as finite
-use Rattle.btree_laws.specs.WellFormed.{IsOffByOne}
 use Rattle.btree_laws.proofs.Trees.Subtrees.{subtree-of}
 use Rattle.btree_laws.proofs.Trees.Stores.{len-views}
 use Rattle.btree_valid.specs.OffByOne.{IsOffByOneAmong}

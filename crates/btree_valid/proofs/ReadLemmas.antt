@@ -1,7 +1,7 @@
 -- Where no check at a position fails, the content is readable (`root-readable`).
 -- The proof builds the tree from its positions: below each of them is a first leaf (`first-leaf`), all leaves have as many
 -- indexes as the first one, and so the children of each node have one height (`build`).
-use Rattle.btree_valid.proofs.Common.{◌≡◌, ◌∙◌, ◌+◌, ◌<◌, ◌≤◌, ◌∷◌, ◌++◌, [], ℕ, zero, suc, inl, inr, List, Option, Some, None, Ok, Err, length, slice_get, refl, sym, ap, subst, arith, IsTotalOrder, AllByRecursion, Ordering, Content, Ascends, Fault, NoNode, WrongParent, Overflowing, Underflowing, EmptyRoot, Unsorted, BelowSeparator, AboveSeparator, TooDeep, NotBalanced, WrongLength, Unreachable, OverLimit, Node, FirstFailed, IsNodeVerdict, node_faults, NodeMap, View, children_of, internal, items_of, leaf, Holds, Subtree, id_of, items_under, times_under, times_listed, numbers_under, pairs_under, views, ascends, rises, numbers-subtree, zero-or, represented-is, represents-of, IsFirstLeaf, IsLeafDepth, IsMetBelow, PassesAt, Spotted, root_spot, step_down, numbers_met, Suits, PassesNode}
+use Rattle.btree_valid.proofs.Common.{◌≡◌, ◌∙◌, ◌+◌, ◌<◌, ◌≤◌, ◌∷◌, ◌++◌, [], ℕ, zero, suc, inl, inr, List, Option, Some, None, Ok, Err, length, slice_get, refl, sym, ap, subst, arith, IsTotalOrder, AllByRecursion, Ordering, Content, Ascends, Fault, NoNode, WrongParent, Overflowing, Underflowing, EmptyRoot, Unsorted, BelowSeparator, AboveSeparator, TooDeep, NotBalanced, WrongLength, Unreachable, OverLimit, Node, FirstFailed, IsNodeVerdict, node_faults, NodeMap, View, children_of, internal, items_of, leaf, Holds, Subtree, id_of, items_under, times_under, times_listed, numbers_under, pairs_under, views, rises, numbers-subtree, zero-or, represented-is, represents-of, IsFirstLeaf, IsLeafDepth, IsMetBelow, PassesAt, Spotted, root_spot, step_down, numbers_met, Suits, PassesNode}
 use Rattle.std.proofs.lemmas.List.{length-map}
 use Rattle.std.specs.FinMap as finite
 use Rattle.std.specs.Prelude.{IsSome}

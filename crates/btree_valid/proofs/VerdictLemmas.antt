@@ -1,5 +1,5 @@
 -- A node of a well formed tree passes each check that the arguments allow.
-use Rattle.btree_valid.proofs.Common.{◌≡◌, ◌≤◌, ◌∷◌, [], ◌∙◌, ℕ, zero, suc, inl, inr, List, length, map, Option, Some, None, refl, subst, arith, AllByRecursion, keys_of, ⊤, IfSome, IsFalse, Ordering, Less, Fault, NoNode, WrongParent, Overflowing, Underflowing, EmptyRoot, Unsorted, BelowSeparator, AboveSeparator, TooDeep, NotBalanced, WrongLength, Unreachable, OverLimit, FirstFailed, IsNodeVerdict, PassesCheck, is_judged_as_root, node_faults, NodeMap, View, items_of, most_of, parent_of, Subtree, count_at, id_of, items_under, later_items, view_at, ascends, rises, AllByRecursion-right, view-parent, view-size, Allows, AreBetween, AreSized, IsSizedNode, PassesNode, Exempt, Holds, Suits, least_between, times_under, one-self, top-view, ◌<◌}
+use Rattle.btree_valid.proofs.Common.{◌≡◌, ◌≤◌, ◌∷◌, [], ◌∙◌, ℕ, zero, suc, inl, inr, List, map, Option, Some, None, refl, subst, arith, AllByRecursion, keys_of, ⊤, IfSome, IsFalse, Ordering, Less, Fault, NoNode, WrongParent, Overflowing, Underflowing, EmptyRoot, Unsorted, BelowSeparator, AboveSeparator, TooDeep, NotBalanced, WrongLength, Unreachable, OverLimit, FirstFailed, IsNodeVerdict, PassesCheck, is_judged_as_root, node_faults, NodeMap, View, items_of, most_of, parent_of, Subtree, count_at, id_of, items_under, later_items, view_at, ascends, rises, AllByRecursion-right, view-parent, view-size, Allows, AreSized, IsSizedNode, PassesNode, Exempt, Suits, least_between, times_under, one-self, top-view, ◌<◌}
 use Rattle.std.proofs.lemmas.Map.Entries.{length-keys_of}
 use Rattle.std.specs.Prelude.{Result, Ok, Err, slice_get}
 use Rattle.btree_view.specs.Checks.{BeginsAbove, EndsBelow}

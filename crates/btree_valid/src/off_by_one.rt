@@ -32,7 +32,11 @@ fn least_items(exempt: Exempt, id: usize) -> usize
     ensures { result ≡ least_allowed exempt.root exempt.id id }
 {
     if id == exempt.id {
-        return if exempt.id == exempt.root { 0 } else { MIN_ITEMS - 1 };
+        return if exempt.id == exempt.root {
+            0
+        } else {
+            MIN_ITEMS - 1
+        };
     }
     if id == exempt.root { 1 } else { MIN_ITEMS }
 }

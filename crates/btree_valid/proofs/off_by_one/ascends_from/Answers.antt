@@ -1,6 +1,6 @@
 use Rattle.btree_valid.proofs.Common.{◌+◌, Some, option_copied, subst, sym, view_of, items_of, refl}
 use Rattle.btree_valid.specs.Sizes.{IsAbove}
-use Rattle.btree_valid.proofs.NodeLemmas.{IsOnWay, way-above, way-end, way-next, way-start}
+use Rattle.btree_valid.proofs.NodeLemmas.{IsOnWay, way-above, way-end, way-next}
 use Rattle.btree_valid.proofs.off_by_one.ascends_from.Goals as goal
 
 pub returns-then-not-is_above : goal.returns-then-not-is_above
