@@ -6,7 +6,7 @@ use Rattle.std.specs.Option.{option_map}
 use Rattle.std.specs.Prelude.{◌⊎◌, IfOk}
 use Rattle.btree_laws.proofs.Paths.Frames.{total-append}
 use Rattle.btree_valid.specs.Spots.{HasFoundPart, MeetsLeaf, WasMore}
-use Rattle.btree_valid.proofs.FoundLemmas.{RowSuits, all-sized, join, leaf-sized}
+use Rattle.btree_valid.proofs.FoundLemmas.{RowSuits, all-sized, join, leaf-sized, row-sized}
 use Rattle.btree_valid.proofs.SuitsLemmas.{items-total, numbers-total, numbers_in, parts_under}
 
 module _ {K V : Type 0} (content : Content (Node K V)) (cmp : K → K → Ordering) (exempt : Option Exempt) (h : ℕ) (parent : Option ℕ) where
@@ -94,7 +94,7 @@ module _ {K V : Type 0} (content : Content (Node K V)) (cmp : K → K → Orderi
           joined.holds.0,
           joined.holds.1,
         );
-        sized = all-sized (views content) cmp exempt min max h id above first bs at chk.sized p row count suits;
+        sized = all-sized (views content) min max id exempt h above first bs at chk.sized p row count (λ some. row-sized cmp (views content) h (Some id) exempt min max p row some suits);
         ascends = ascends cmp (items_under (K × V) (suc h) (id, p, row)) joined.rise;
         between = joined.between;
       }
@@ -213,7 +213,7 @@ module _ {K V : Type 0} (content : Content (Node K V)) (cmp : K → K → Orderi
           low = omega arith;
           suits = record {
             holds = there ∙ ap (λ q. Some (leaf q xs)) k.parent_is;
-            sized = leaf-sized (views content) exempt (option_copied spot.min) (option_copied spot.max) spot.id spot.parent xs (there ∙ ap (λ q. Some (leaf q xs)) k.parent_is) (subst (λ q. IsSizedNode exempt (option_copied spot.min) (option_copied spot.max) spot.id (leaf q xs)) k.parent_is k.sized);
+            sized = leaf-sized (views content) (option_copied spot.min) (option_copied spot.max) spot.id exempt spot.parent xs (there ∙ ap (λ q. Some (leaf q xs)) k.parent_is) (subst (λ q. IsSizedNode exempt (option_copied spot.min) (option_copied spot.max) spot.id (leaf q xs)) k.parent_is k.sized);
             ascends = k.ascends;
             between = k.between;
           };

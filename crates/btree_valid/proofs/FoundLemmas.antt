@@ -5,6 +5,7 @@ use Rattle.std.proofs.lemmas.Map.Entries.{length-keys_of}
 use Rattle.std.specs.Prelude.{IsTrue, slice_get}
 use Rattle.btree_view.specs.Checks.{BeginsAbove, EndsBelow}
 use Rattle.btree_laws.proofs.Paths.Frames.{AllByRecursion-append}
+use Rattle.btree_valid.proofs.SuitsLemmas.{AreSizedRow}
 use Rattle.btree_valid.proofs.VerdictLemmas.{least-one}
 
 -- if the answer is Ok, each check passed
@@ -131,54 +132,51 @@ module _ {K V : Type 0} (cmp : K → K → Ordering) (laws : IsTotalOrder cmp) w
         }
 
 module _ {K V : Type 0} (cmp : K → K → Ordering) (node_at : NodeMap (K × V)) (h : ℕ) (parent : Option ℕ) where
-  -- each child has three items or more, if there is a key
-  filled-first : (min : Option K) (key : K) (first : Subtree (K × V) h) → Suits None cmp min (Some key) node_at parent h first → IsFilled 3 h (count_at (K × V) h first) × IsFilledBelow (K × V) h first
-  filled-first None key first s = s.sized
-  filled-first (Some m) key first s = s.sized
+  -- after a key, each child has three items or more
+  later-filled : (key : K) (max : Option K) (first : Subtree (K × V) h) (row : List ((K × V) × Subtree (K × V) h)) → RowSuits cmp None node_at h parent (Some key) max first row → AreSizedRow h node_at None first row
+  later-filled key max first [] s = (s.sized.0, s.sized.1, tt)
+  later-filled key max first (b ∷ row) s = let r = later-filled b.0.0 max b.1 row s.1 in (s.0.sized.0, s.0.sized.1, ((r.0, r.1), r.2))
 
-  row-filled : (key : K) (max : Option K) (first : Subtree (K × V) h) (row : List ((K × V) × Subtree (K × V) h)) → RowSuits cmp None node_at h parent (Some key) max first row
-      → IsFilled 3 h (count_at (K × V) h first) × IsFilledBelow (K × V) h first × AllByRecursion (λ b. IsFilled 3 h (count_at (K × V) h b.1) × IsFilledBelow (K × V) h b.1) row
-  row-filled key max first [] s = (s.sized.0, s.sized.1, tt)
-  row-filled key max first (b ∷ row) s = let r = row-filled b.0.0 max b.1 row s.1 in (s.0.sized.0, s.0.sized.1, ((r.0, r.1), r.2))
+  first-filled : (min : Option K) (key : K) (first : Subtree (K × V) h) → Suits None cmp min (Some key) node_at parent h first → IsFilled 3 h (count_at (K × V) h first) × IsFilledBelow (K × V) h first
+  first-filled None key first s = s.sized
+  first-filled (Some m) key first s = s.sized
 
-  all-filled : (min max : Option K) (first : Subtree (K × V) h) (row : List ((K × V) × Subtree (K × V) h)) → 0 < length row → RowSuits cmp None node_at h parent min max first row
-      → IsFilled 3 h (count_at (K × V) h first) × IsFilledBelow (K × V) h first × AllByRecursion (λ b. IsFilled 3 h (count_at (K × V) h b.1) × IsFilledBelow (K × V) h b.1) row
-  all-filled min max first [] some s = absurd (omega arith)
-  all-filled min max first (b ∷ row) some s = let f = filled-first min b.0.0 first s.0 in let r = row-filled b.0.0 max b.1 row s.1 in (f.0, f.1, ((r.0, r.1), r.2))
-
-  row-nearly : (e : Exempt) (min max : Option K) (first : Subtree (K × V) h) (row : List ((K × V) × Subtree (K × V) h)) → RowSuits cmp (Some e) node_at h parent min max first row
-      → (n : ℕ) (v : View (K × V)) → 0 < times_under (K × V) h n first + total (λ b. times_under (K × V) h n b.1) row → node_at n ≡ Some v → IsNearlySized e.root e.id n v
-  row-nearly e min max first [] s n v some at = s.sized n v (omega arith) at
-  row-nearly e min max first (b ∷ row) s n v some at = elim (zero-or (times_under (K × V) h n first)) [
-    | inl none ↦ row-nearly e (Some b.0.0) max b.1 row s.1 n v (omega arith) at
-    | inr here ↦ s.0.sized n v here at
+  -- children that suit have their numbers of items, if there is a key, or a node is exempt
+  pub row-sized : (exempt : Option Exempt) (min max : Option K) (first : Subtree (K × V) h) (row : List ((K × V) × Subtree (K × V) h)) → (exempt ≡ None → 0 < length row) → RowSuits cmp exempt node_at h parent min max first row → AreSizedRow h node_at exempt first row
+  row-sized None min max first [] some s = let z = some refl in absurd (omega arith)
+  row-sized None min max first (b ∷ row) some s = let f = first-filled min b.0.0 first s.0 in let r = later-filled b.0.0 max b.1 row s.1 in (f.0, f.1, ((r.0, r.1), r.2))
+  row-sized (Some e) min max first [] some s = λ n v here at. s.sized n v (omega arith) at
+  row-sized (Some e) min max first (b ∷ row) some s = λ n v here at. elim (zero-or (times_under (K × V) h n first)) [
+    | inl none ↦ row-sized (Some e) (Some b.0.0) max b.1 row (λ no. absurd (cc)) s.1 n v (omega arith) at
+    | inr listed ↦ s.0.sized n v listed at
   ]
 
--- a node is exempt
+-- the number of items of a node that is exempt, or is not
 nearly-here : {A : Type 0} (node_at : NodeMap A) (root exempt id n : ℕ) (node v : View A) → node_at id ≡ Some node → IsNearlySized root exempt id node → n ≡ id → node_at n ≡ Some v → IsNearlySized root exempt n v
 nearly-here node_at root exempt id n node v here own same at =
     let there : node_at id ≡ Some v = subst (λ m. node_at m ≡ Some v) same at in
     let is : node ≡ v = (let q : Some node ≡ Some v = sym here ∙ there in cc) in
     subst (λ m. IsNearlySized root exempt m v) (sym same) (subst (λ u. IsNearlySized root exempt id u) is own)
 
-module _ {K V : Type 0} (node_at : NodeMap (K × V)) where
+module _ {K V : Type 0} (node_at : NodeMap (K × V)) (min max : Option K) (id : ℕ) where
   -- the nodes of a leaf
-  pub leaf-sized : (exempt : Option Exempt) (min max : Option K) (id : ℕ) (parent : Option ℕ) (xs : List (K × V)) → node_at id ≡ Some (leaf parent xs) → IsSizedNode exempt min max id (leaf parent xs) → AreSized exempt min max node_at 0 (id, xs)
-  leaf-sized None min max id parent xs here own = (own, tt)
-  leaf-sized (Some e) min max id parent xs here own = λ n v some at. elim (same-or n id) [
+  pub leaf-sized : (exempt : Option Exempt) (parent : Option ℕ) (xs : List (K × V)) → node_at id ≡ Some (leaf parent xs) → IsSizedNode exempt min max id (leaf parent xs) → AreSized exempt min max node_at 0 (id, xs)
+  leaf-sized None parent xs here own = (own, tt)
+  leaf-sized (Some e) parent xs here own = λ n v some at. elim (same-or n id) [
     | inl same ↦ nearly-here node_at e.root e.id id n (leaf parent xs) v here own same at
     | inr other ↦ let z = one-other n id other in absurd (omega arith)
   ]
 
-  -- and of an internal node and its children
-  pub all-sized : (cmp : K → K → Ordering) (exempt : Option Exempt) (min max : Option K) (h : ℕ) (id : ℕ) (parent : Option ℕ) (child : ℕ) (bs : List ((K × V) × ℕ)) → node_at id ≡ Some (internal parent child bs) → IsSizedNode exempt min max id (internal parent child bs)
-      → (first : Subtree (K × V) h) (row : List ((K × V) × Subtree (K × V) h)) → size_of (internal parent child bs) ≡ length row → RowSuits cmp exempt node_at h (Some id) min max first row → AreSized exempt min max node_at (suc h) (id, first, row)
-  all-sized cmp None min max h id parent child bs here own first row count s =
+  -- and those of an internal node and its children
+  pub all-sized : (exempt : Option Exempt) (h : ℕ) (parent : Option ℕ) (child : ℕ) (bs : List ((K × V) × ℕ)) → node_at id ≡ Some (internal parent child bs) → IsSizedNode exempt min max id (internal parent child bs)
+      → (first : Subtree (K × V) h) (row : List ((K × V) × Subtree (K × V) h)) → size_of (internal parent child bs) ≡ length row → ((exempt ≡ None → 0 < length row) → AreSizedRow h node_at exempt first row)
+      → AreSized exempt min max node_at (suc h) (id, first, row)
+  all-sized None h parent child bs here own first row count below =
       let one = least-one min max in
       let low = own.0 in
       let high = own.1 in
-      ((omega arith, omega arith), all-filled cmp node_at h (Some id) min max first row (omega arith) s)
-  all-sized cmp (Some e) min max h id parent child bs here own first row count s = λ n v some at. elim (same-or n id) [
+      ((omega arith, omega arith), below (λ no. omega arith))
+  all-sized (Some e) h parent child bs here own first row count below = λ n v some at. elim (same-or n id) [
     | inl same ↦ nearly-here node_at e.root e.id id n (internal parent child bs) v here own same at
-    | inr other ↦ let z = one-other n id other in row-nearly cmp node_at h (Some id) e min max first row s n v (omega arith) at
+    | inr other ↦ let z = one-other n id other in below (λ no. absurd (cc)) n v (omega arith) at
   ]

@@ -1,5 +1,6 @@
--- The validator. A file cites those before it. Main theorems: `all-found` in TreeLemmas, no fault means a well formed tree; NameLemmas, the fault
--- that is answered is the first one; `readable` in ReadLaws, what a reader may rest on where no check fails.
+-- The validator. A file cites those before it. Main theorems: `all-found` in TreeLemmas, no fault means a well formed tree; `off-found` in
+-- OffByOneLemmas, or one that is off by one at the node that is exempt; NameLemmas, the fault that is answered is the first one; `readable` in
+-- ReadLaws, what a reader may rest on where no check fails.
 pub mod Common
 pub mod ChildLemmas
 pub mod VerdictLemmas

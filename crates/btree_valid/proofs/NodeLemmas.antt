@@ -9,31 +9,6 @@ use Rattle.btree_valid.specs.Sizes.{AscendsFrom, IsAbove}
 use Rattle.btree_valid.proofs.FoundLemmas.{above-all, ends-all}
 use Rattle.btree_valid.proofs.VerdictLemmas.{key-ends}
 
-same-number : (m n : ℕ) → eqb m n ≡ true → m ≡ n
-same-number m n e = grind (arith, nat_tests)
-
--- a test of two options, and one that is turned
-pub same-option : (a b : Option ℕ) → option_eq eqb a b ≡ true → a ≡ b
-same-option None None e = refl
-same-option None (Some n) e = absurd (cc)
-same-option (Some m) None e = absurd (cc)
-same-option (Some m) (Some n) e = ap Some (same-number m n e)
-
-pub option-same : (a b : Option ℕ) → a ≡ b → option_eq eqb a b ≡ true
-option-same None None same = refl
-option-same None (Some n) same = absurd (cc)
-option-same (Some m) None same = absurd (cc)
-option-same (Some m) (Some n) same = let is : m ≡ n = cc in grind (arith, nat_tests)
-
-pub same-parent : (a b : Option ℕ) → false ≡ not (option_eq eqb a b) → a ≡ b
-same-parent a b e = same-option a b (by (option_eq eqb a b) e) where
-  by : (c : _) → false ≡ not c → c ≡ true
-  by true f = refl
-  by false f = absurd (cc)
-
-pub parent-same : (a b : Option ℕ) → true ≡ not (option_eq eqb a b) → a ≡ b → ⊥
-parent-same a b e same = let yes = option-same a b same in absurd (cc)
-
 module _ {K V : Type 0} (cmp : K → K → Ordering) where
   -- keys of which each is above the one before it are in order, and above the first
   from-order : IsTotalOrder cmp → (last : Option K) (xs : List (K × V)) → AscendsFrom cmp last xs → IfSome last (λ m. AllByRecursion (λ x. cmp m x.0 ≡ Less) xs) × Rises cmp xs
@@ -72,26 +47,6 @@ module _ {K V : Type 0} (cmp : K → K → Ordering) where
           only = λ f. w.only (subst (AscendsFrom cmp last) (sym (drop-next all index x found)) (up, f));
           always = λ f. (next f).1;
         }
-
-key-in : {K V : Type 0} (xs : List (K × V)) (index : ℕ) → slice_get (keys_of xs) index ≡ option_map (λ x. x.0) (slice_get xs index)
-key-in [] index = refl
-key-in (x ∷ xs) zero = refl
-key-in (x ∷ xs) (suc index) = key-in xs index
-
-module _ {K V : Type 0} (cmp : K → K → Ordering) (xs : List (K × V)) (index : ℕ) (is : index ≡ length xs - 1) (max : K) where
-  last-key : slice_get (keys_of xs) (length (keys_of xs) - 1) ≡ option_map (λ x. x.0) (slice_get xs index)
-  last-key = let same : length (keys_of xs) - 1 ≡ index = (let c = length-keys_of xs in omega arith) in ap (slice_get (keys_of xs)) same ∙ key-in xs index
-
-  -- the last key decides
-  pub last-below : (x : K × V) → slice_get xs index ≡ Some x → (EndsBelow cmp (Some max) (keys_of xs) → cmp x.0 max ≡ Less) × (cmp x.0 max ≡ Less → EndsBelow cmp (Some max) (keys_of xs))
-  last-below x found =
-      let e : slice_get (keys_of xs) (length (keys_of xs) - 1) ≡ Some x.0 = last-key ∙ ap (option_map (λ x. x.0)) found in
-      (λ f. subst (λ o. IfSome o (λ k. cmp k max ≡ Less)) e f, λ less. subst (λ o. IfSome o (λ k. cmp k max ≡ Less)) (sym e) less)
-
-  pub none-below : slice_get xs index ≡ None → EndsBelow cmp (Some max) (keys_of xs)
-  none-below none =
-      let e : slice_get (keys_of xs) (length (keys_of xs) - 1) ≡ None = last-key ∙ ap (option_map (λ x. x.0)) none in
-      subst (λ o. IfSome o (λ k. cmp k max ≡ Less)) (sym e) tt
 
 module _ {K V : Type 0} (cmp : K → K → Ordering) (exempt : Exempt) (id : ℕ) (parent : Option ℕ) (min max : Option K) (v : View (K × V)) where
   -- a node passes its checks exactly if its keys are in order, and the rest is right

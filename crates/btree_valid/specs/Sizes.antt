@@ -27,12 +27,12 @@ abbrev pub least_between : {K : Type 0} → (min max : Option K) → ℕ
 least_between min max = if is_judged_as_root min max then 1 else MIN_ITEMS
 
 module _ {K V : Type 0} where
-  -- a node between two separators has its number of items; where a node is exempt, its place in the tree decides
+  -- a node has its number of items, as the separators around it decide; where a node is exempt, as its number does
   abbrev pub IsSizedNode : Option Exempt → (min max : Option K) → (id : ℕ) → View (K × V) → Type 0
   IsSizedNode None min max id node = (least_between min max ≤ size_of node) × (size_of node ≤ most_of node)
   IsSizedNode (Some exempt) min max id node = IsNearlySized exempt.root exempt.id id node
 
-  -- so does each node of a part
+  -- so has each node of a part
   abbrev pub AreSized : Option Exempt → (min max : Option K) → NodeMap (K × V) → (height : ℕ) → Subtree (K × V) height → Type 0
   AreSized None min max node_at height part = IsFilled (least_between min max) height (count_at (K × V) height part) × IsFilledBelow (K × V) height part
   AreSized (Some exempt) min max node_at height part =

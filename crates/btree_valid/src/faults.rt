@@ -1,6 +1,6 @@
 //! Checks the nodes of a store of any content, and finds the first fault.
 //!
-//! One walk serves all: a node may be exempt, and then has one item too many or too few at will.
+//! One walk serves `validate`, `validate_node` and `is_off_by_one`, which exempts a node: it may have one item too many or too few.
 ghost use Rattle.std.specs.Prelude.{◌≡◌, ◌↔◌, ◌+◌, ◌<◌, ◌≤◌, None, IfErr, IfOk, IsTrue, Some, Ok, Err, option_copied, slice_get};
 ghost use Rattle.std.specs.FinMap as map;
 ghost use Rattle.std.specs.Mem.{FitsInMemory};

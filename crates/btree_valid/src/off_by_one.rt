@@ -86,7 +86,7 @@ fn ends_below<K: Ord, V>(node: &Node<K, V>, max: Option<&K>) -> bool
         return true;
     };
     match node.item_at_index(node.item_count().saturating_sub(1)) {
-        Some(item) => is_above(Some(item.key()), max),
+        Some(item) => item.key() < max,
         None => true,
     }
 }

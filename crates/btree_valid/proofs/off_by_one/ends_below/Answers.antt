@@ -1,20 +1,16 @@
-use Rattle.btree_valid.proofs.Common.{◌≡◌, ◌∙◌, ◌-◌, Less, Some, ap, subst, sym, option_copied, keys_of, view_of, items_of, refl}
-use Rattle.btree_view.specs.Checks.{EndsBelow}
-use Rattle.btree_valid.proofs.NodeLemmas.{last-below, none-below}
+use Rattle.btree_valid.proofs.Common.{◌∙◌, ◌-◌, ap, option_copied, slice_get, sym, view_of, items_of}
+use Rattle.btree_item.proofs.KeyLemmas.{is_lt-from_partial}
+use Rattle.btree_view.proofs.EndLemmas.{EndsBelow-last, EndsBelow-none}
 use Rattle.btree_valid.proofs.off_by_one.ends_below.Goals as goal
 
 pub returns-in-Some-item_at_index : goal.returns-in-Some-item_at_index
 returns-in-Some-item_at_index g c =
-    let near : option_copied c.args.max ≡ Some c.in-Some.max.now = ap option_copied c.in-Some.is in
-    let b = last-below g.K.Ord.cmp (items_of (view_of c.args.node.now)) c.saturating_sub.result (c.saturating_sub.ensures ∙ ap (λ n. n - 1) c.item_count.ensures.value) c.in-Some.max.now c.in-Some-item_at_index.item.now c.in-Some-item_at_index.ensures.item in (
-      λ yes. subst (λ m. EndsBelow g.K.Ord.cmp m (keys_of (items_of (view_of c.args.node.now)))) (sym near) (b.1 (subst (λ k. g.K.Ord.cmp k c.in-Some.max.now ≡ Less) c.key.ensures (c.is_above.ensures.0 yes))),
-      λ below. c.is_above.ensures.1 (subst (λ k. g.K.Ord.cmp k c.in-Some.max.now ≡ Less) (sym c.key.ensures) (b.0 (subst (λ m. EndsBelow g.K.Ord.cmp m (keys_of (items_of (view_of c.args.node.now)))) near below))),
-    )
+    let less = is_lt-from_partial g.met.K.Ord.matches_partial_cmp _ _ _ c.lt.ensures in
+    let keyed = rw c.key.ensures at less in
+    let at = sym c.item_at_index.ensures.item ∙ ap (slice_get (items_of (view_of c.args.node.now))) c.saturating_sub.ensures in
+    EndsBelow-last g.K.Ord.cmp (λ x. x.0) (items_of (view_of c.args.node.now)) c.item_count.result _ _ _ _ _ c.item_count.ensures.value at (ap option_copied c.in-Some.is) (ap option_copied c.in-Some-item_at_index.is) keyed
 
 pub returns-in-None : goal.returns-in-None
 returns-in-None g c =
-    let near : option_copied c.args.max ≡ Some c.in-Some.max.now = ap option_copied c.in-Some.is in
-    let none = none-below g.K.Ord.cmp (items_of (view_of c.args.node.now)) c.saturating_sub.result (c.saturating_sub.ensures ∙ ap (λ n. n - 1) c.item_count.ensures.value) c.in-Some.max.now c.in-None.ensures.item in (
-      λ yes. subst (λ m. EndsBelow g.K.Ord.cmp m (keys_of (items_of (view_of c.args.node.now)))) (sym near) none,
-      λ below. refl,
-    )
+    let at = sym c.item_at_index.ensures.item ∙ ap (slice_get (items_of (view_of c.args.node.now))) c.saturating_sub.ensures in
+    EndsBelow-none g.K.Ord.cmp (λ x. x.0) (items_of (view_of c.args.node.now)) c.item_count.result _ _ _ c.item_count.ensures.value at (ap option_copied c.in-Some.is) (ap option_copied c.in-None.is)
