@@ -1,8 +1,5 @@
 -- The checks of a node in a tree that may be off by one.
-use Rattle.btree_valid.proofs.Common.{◌≡◌, ◌∷◌, [], ◌∙◌, ◌+◌, ◌-◌, ℕ, zero, suc, List, length, drop, option_map, true, false, Option, Some, None, slice_get, refl, sym, ap, subst, arith, nat_tests, IsTotalOrder, AllByRecursion, keys_of, IfSome, Ordering, Less, Exempt, PassesNode, IsNearlySized, View, items_of, parent_of, Rises, ascends, rises}
-use Rattle.std.proofs.Common.{not, eqb}
-use Rattle.std.proofs.lemmas.Map.Entries.{length-keys_of}
-use Rattle.std.specs.Option.{option_eq}
+use Rattle.btree_valid.proofs.Common.{◌≡◌, ◌∷◌, [], ◌+◌, ℕ, List, drop, Option, Some, None, slice_get, sym, subst, IsTotalOrder, AllByRecursion, keys_of, IfSome, Ordering, Less, Exempt, PassesNode, IsNearlySized, View, items_of, parent_of, Rises, ascends, rises}
 use Rattle.btree_node.proofs.RoomLemmas.{drop-next, drop-none}
 use Rattle.btree_view.specs.Checks.{EndsBelow}
 use Rattle.btree_valid.specs.Sizes.{AscendsFrom, IsAbove}

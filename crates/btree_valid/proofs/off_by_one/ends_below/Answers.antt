@@ -1,4 +1,4 @@
-use Rattle.btree_valid.proofs.Common.{◌∙◌, ◌-◌, ap, option_copied, slice_get, sym, view_of, items_of}
+use Rattle.btree_valid.proofs.Common.{◌∙◌, ap, option_copied, slice_get, sym, view_of, items_of}
 use Rattle.btree_item.proofs.KeyLemmas.{is_lt-from_partial}
 use Rattle.btree_view.proofs.EndLemmas.{EndsBelow-last, EndsBelow-none}
 use Rattle.btree_valid.proofs.off_by_one.ends_below.Goals as goal
