@@ -2,10 +2,7 @@
 -- OffByOneLemmas, or one that is off by one at the node that is exempt; NameLemmas, the fault that is answered is the first one; `readable` in
 -- ReadLaws, what a reader may rest on where no check fails.
 pub mod Common
-<<<<<<< HEAD
 pub mod ListedLaws
-=======
->>>>>>> 55c01a0d7c7b005ed7596585c5f6642ca25539ce
 pub mod ChildLemmas
 pub mod VerdictLemmas
 pub mod SuitsLemmas
