@@ -22,7 +22,7 @@ fn first_free<C: NodesMut<u64, Span<Owner>>>(
     size: u64,
     end: u64,
 ) -> Option<(u64, u64)>
-    ensures free { IfSome result (AreFreeBelow end memory.now.ranges) }
+    ensures free { IfSome result (AreFreeBelow end memory.now) }
     ensures size { IfSome result (λ run. run.1 ≡ run.0 + size) }
 {
     let mut gaps = memory.gaps(0, end);
