@@ -1,4 +1,5 @@
 pub mod CapacityLaws
+pub mod Filled
 pub mod Gated
 pub mod Lends
 pub mod Odd
