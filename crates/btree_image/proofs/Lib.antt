@@ -1,0 +1,5 @@
+pub mod Loop
+pub mod Again
+pub mod PlaceLemmas
+pub mod CountLemmas
+pub mod Put

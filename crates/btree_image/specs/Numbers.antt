@@ -3,6 +3,13 @@ use Rattle.std.specs.Prelude.{◌≡◌, ℕ, zero, suc, Bool, true, false, List
 use Rattle.std.specs.Int.{Width, byte_len, to_be_bytes, from_be_bytes}
 use Rattle.btree_image.specs.Spelled.{Read}
 
+abbrev pub byte_bytes : ℕ → List ℕ
+byte_bytes n = n ∷ []
+
+unfoldable pub byte_read : Read ℕ
+byte_read [] = None
+byte_read (n ∷ rest) = Some (n, rest)
+
 abbrev pub number_bytes : Width → ℕ → List ℕ
 number_bytes w n = to_be_bytes w n
 

@@ -1,4 +1,6 @@
 //! What is wrong with the bytes of a tree.
+ghost use Rattle.std.specs.Prelude.{◌≡◌};
+ghost use Rattle.btree_image.specs.declared.fault.ReadError.TheVariants as errors;
 
 /// What is wrong with the bytes of a tree.
 #[derive(Clone, Copy, Debug, PartialEq, Eq)]
@@ -28,4 +30,21 @@ pub enum BadImage {
 pub struct Stop {
     pub fault: BadImage,
     pub left: usize,
+}
+
+/// Why bytes are not read as a tree.
+#[derive(Clone, Copy, Debug, PartialEq, Eq)]
+pub enum ReadError {
+    /// The store refused a node.
+    Store,
+    /// The first fault of the bytes.
+    Image(Stop),
+}
+
+impl From<Stop> for ReadError {
+    ghost from_gives = { λ stop e. e ≡ errors.Image stop };
+
+    fn from(stop: Stop) -> ReadError {
+        ReadError::Image(stop)
+    }
 }

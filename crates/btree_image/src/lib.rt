@@ -2,14 +2,18 @@
 #![tactic(auto)]
 
 mod fault;
+mod head;
+mod numbers;
 mod reading;
 mod spelled;
 mod sum;
 mod words;
+mod writing;
 
-pub use fault::{BadImage, Stop};
+pub use fault::{BadImage, ReadError, Stop};
 pub use spelled::Spelled;
 pub use sum::check_sum_of;
+pub use writing::bytes_of;
 
 /// The word that the bytes of a tree begin with: `btreesav` in ASCII.
 pub const MAGIC: u64 = 0x6274_7265_6573_6176;

@@ -1,13 +1,15 @@
 //! The nodes that bytes stand for.
-ghost use Rattle.std.specs.Prelude.{◌≡◌, ◌==◌, option_map};
+ghost use Rattle.std.specs.Prelude.{◌≡◌, ◌<◌, ◌≤◌, option_map};
+ghost use Rattle.btree_view.specs.Kept.{kept_parent};
 ghost use Rattle.btree_node.specs.Node.{view_of};
 ghost use Rattle.btree_image.specs.Gives.{Gives};
-ghost use Rattle.btree_image.specs.Reading.{branch_at, internal_at, item_at, leaf_at, place_at};
+ghost use Rattle.btree_image.specs.Reading.{branch_at, internal_at, internal_with, item_at, leaf_at, leaf_with, place_at};
 
 use crate::fault::{BadImage, Stop};
 use crate::spelled::Spelled;
 use crate::words::{read_count, read_number, read_value, read_word, stop};
 use btree_item::{INTERNAL_SLOTS, Item, LEAF_SLOTS};
+use btree_leaf::LeafNode;
 use btree_node::Node;
 
 // Reads a key and its value.
@@ -30,38 +32,51 @@ fn read_branch<K: Spelled, V: Spelled>(bytes: &[u8]) -> Result<(Item<K, V>, usiz
     Ok((item, child as usize, rest))
 }
 
-// Reads a leaf, after its kind.
-#[tactic(auto, unfolding(crate::specs::Reading::leaf_at))]
-fn read_leaf<K: Spelled + Drop, V: Spelled + Drop>(
+// Reads so many items of a leaf.
+fn read_items<K: Spelled, V: Spelled>(
+    parent: Option<usize>,
+    count: u64,
     bytes: &[u8],
 ) -> Result<(Node<K, V>, &[u8]), Stop>
+    requires kept { kept_parent parent ≡ parent }
+    requires fits { count ≤ LEAF_SLOTS }
+    ensures { Gives (λ x. (view_of x.0, x.1.now)) result (leaf_with K.read V.read parent count bytes.now) }
+{
+    let mut leaf = LeafNode::empty(parent);
+    let mut rest = bytes;
+    for _ in 0..count {
+        let (item, after) = read_item(rest)?;
+        leaf.push_right(item);
+        rest = after;
+    }
+    Ok((Node::Leaf(leaf), rest))
+}
+
+// Reads a leaf, after its kind.
+#[tactic(auto, unfolding(crate::specs::Reading::leaf_at))]
+fn read_leaf<K: Spelled, V: Spelled>(bytes: &[u8]) -> Result<(Node<K, V>, &[u8]), Stop>
     ensures { Gives (λ x. (view_of x.0, x.1.now)) result (leaf_at K.read V.read bytes.now) }
 {
     let (parent, rest) = read_number(bytes)?;
     let (count, rest) = read_count(rest, LEAF_SLOTS as u64)?;
-    let (first, rest) = read_item(rest)?;
-    let mut node = Node::leaf(parent, first);
-    let mut rest = rest;
-    for _ in 1..count {
-        let (item, after) = read_item(rest)?;
-        node.push_right(item, None);
-        rest = after;
-    }
-    Ok((node, rest))
+    read_items(parent, count, rest)
 }
 
-// Reads an internal node, after its kind.
-#[tactic(auto, unfolding(crate::specs::Reading::internal_at))]
-fn read_internal<K: Spelled + Drop, V: Spelled + Drop>(
+// Reads so many branches of an internal node, at least one.
+fn read_branches<K: Spelled, V: Spelled>(
+    parent: Option<usize>,
+    first: usize,
+    count: u64,
     bytes: &[u8],
 ) -> Result<(Node<K, V>, &[u8]), Stop>
-    ensures { Gives (λ x. (view_of x.0, x.1.now)) result (internal_at K.read V.read bytes.now) }
+    requires kept { kept_parent parent ≡ parent }
+    requires some { 0 < count }
+    requires fits { count ≤ INTERNAL_SLOTS }
+    ensures { Gives (λ x. (view_of x.0, x.1.now)) result
+        (internal_with K.read V.read parent first count bytes.now) }
 {
-    let (parent, rest) = read_number(bytes)?;
-    let (count, rest) = read_count(rest, INTERNAL_SLOTS as u64)?;
-    let (left, rest) = read_word(rest)?;
-    let (median, right, rest) = read_branch(rest)?;
-    let mut node = Node::binary(parent, left as usize, median, right);
+    let (item, child, rest) = read_branch(bytes)?;
+    let mut node = Node::binary(parent, first, item, child);
     let mut rest = rest;
     for _ in 1..count {
         let (item, child, after) = read_branch(rest)?;
@@ -71,9 +86,20 @@ fn read_internal<K: Spelled + Drop, V: Spelled + Drop>(
     Ok((node, rest))
 }
 
+// Reads an internal node, after its kind.
+#[tactic(auto, unfolding(crate::specs::Reading::internal_at))]
+fn read_internal<K: Spelled, V: Spelled>(bytes: &[u8]) -> Result<(Node<K, V>, &[u8]), Stop>
+    ensures { Gives (λ x. (view_of x.0, x.1.now)) result (internal_at K.read V.read bytes.now) }
+{
+    let (parent, rest) = read_number(bytes)?;
+    let (count, rest) = read_count(rest, INTERNAL_SLOTS as u64)?;
+    let (first, rest) = read_word(rest)?;
+    read_branches(parent, first as usize, count, rest)
+}
+
 // Reads a place, with its node if it has one, as the last place has.
 #[tactic(auto, unfolding(crate::specs::Reading::place_at))]
-pub(crate) fn read_place<K: Spelled + Drop, V: Spelled + Drop>(
+pub(crate) fn read_place<K: Spelled, V: Spelled>(
     bytes: &[u8],
     is_last: bool,
 ) -> Result<(Option<Node<K, V>>, &[u8]), Stop>

@@ -7,7 +7,7 @@ use std::alloc::{AllocError, Allocator};
 /// A value that is written as bytes and read again from the front of bytes. Its bytes say where they end: what follows does not matter.
 ///
 /// Two values of a type never have the same bytes, and a value that is read has the bytes that it was read from.
-pub trait Spelled: Sized {
+pub trait Spelled: Sized + Drop {
     /// The bytes of a value.
     ghost spelling: { Self → List ℕ };
 

@@ -1,5 +1,6 @@
 //! Words of eight bytes, and values of a type of its own.
-ghost use Rattle.std.specs.Prelude.{◌≡◌, ◌++◌, OnOk};
+ghost use Rattle.std.specs.Prelude.{◌≡◌, ◌++◌, ◌<◌, ◌≤◌, Err, IfOk, OnOk, length};
+ghost use Rattle.btree_view.specs.Kept.{kept_parent};
 ghost use Rattle.btree_image.specs.Gives.{Gives};
 ghost use Rattle.btree_image.specs.Image.{number, word};
 ghost use Rattle.btree_image.specs.Reading.{count_at, number_at, this_at, value_at, word_at};
@@ -48,7 +49,8 @@ pub(crate) fn read_this(wanted: u64, fault: BadImage, bytes: &[u8]) -> Result<&[
 // Reads a number, where the greatest one stands for none.
 #[tactic(auto, unfolding(crate::specs::Reading::number_at))]
 pub(crate) fn read_number(bytes: &[u8]) -> Result<(Option<usize>, &[u8]), Stop>
-    ensures { Gives (λ x. (x.0, x.1.now)) result (number_at bytes.now) }
+    ensures number { Gives (λ x. (x.0, x.1.now)) result (number_at bytes.now) }
+    ensures kept { IfOk result (λ x. kept_parent x.0 ≡ x.0) }
 {
     let (word, rest) = read_word(bytes)?;
     if word == u64::MAX {
@@ -60,7 +62,9 @@ pub(crate) fn read_number(bytes: &[u8]) -> Result<(Option<usize>, &[u8]), Stop>
 // Reads how many items a node has, which is at least 1 and at most `most`.
 #[tactic(auto, unfolding(crate::specs::Reading::count_at))]
 pub(crate) fn read_count(bytes: &[u8], most: u64) -> Result<(u64, &[u8]), Stop>
-    ensures { Gives (λ x. (x.0, x.1.now)) result (count_at most bytes.now) }
+    ensures count { Gives (λ x. (x.0, x.1.now)) result (count_at most bytes.now) }
+    ensures some { IfOk result (λ x. 0 < x.0) }
+    ensures fits { IfOk result (λ x. x.0 ≤ most) }
 {
     let (count, rest) = read_word(bytes)?;
     if count == 0 || count > most {

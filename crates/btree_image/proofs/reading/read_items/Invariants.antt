@@ -1,0 +1,9 @@
+use Rattle.std.proofs.Common.{◌≡◌}
+use Rattle.btree_image.specs.Reading.{item_at}
+use Rattle.btree_image.proofs.Loop.{HasRead}
+use Rattle.btree_image.proofs.reading.read_items.Given as goal
+
+abbrev pub invariant-loop : goal.invariant-loop
+invariant-loop g l =
+    (l.leaf.parent ≡ l.parent)
+    × HasRead (λ left. item_at g.K.Spelled.read g.V.Spelled.read) l.count l.bytes l.leaf.items l.counter l.rest
