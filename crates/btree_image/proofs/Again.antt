@@ -58,6 +58,29 @@ many-again parse spell (x ∷ xs) rest h =
     let others = many-again parse spell xs rest (λ k. h (suc k)) in
     rw (flat_map-cons spell x xs, append_assoc, one, others) refl
 
+abbrev pub head_text : Head → List ℕ
+head_text head = word MAGIC ++ word VERSION ++ number head.root ++ word head.len ++ word head.limit ++ word head.count
+
+
+-- the numbers of a head are words
+pub record FitsHead (head : Head) : Type 0 where
+  pub root : IfSome head.root (λ n. n < 2 ^ 64 - 1)
+  pub len : head.len < 2 ^ 64
+  pub limit : head.limit < 2 ^ 64
+  pub count : head.count < 2 ^ 64
+
+
+head-again : (head : Head) (rest : List ℕ) → FitsHead head → head_at (head_text head ++ rest) ≡ Ok (head, rest)
+unfolding head_at
+head-again head rest fits =
+    let count : List ℕ = word head.count ++ rest in
+    let limit : List ℕ = word head.limit ++ count in
+    let len : List ℕ = word head.len ++ limit in
+    let root : List ℕ = number head.root ++ len in
+    let version : List ℕ = word VERSION ++ root in
+    let shape : head_text head ++ rest ≡ word MAGIC ++ version = simp append_assoc in
+    rw (shape, this-again MAGIC Magic version (omega arith), this-again VERSION Version root (omega arith), number-again head.root len fits.root, word-again head.len limit fits.len, word-again head.limit count fits.limit, word-again head.count rest fits.count) refl
+
 -- ---- nodes and places
 
 module _ {K V : Type 0} (spell_key : K → List ℕ) (spell_value : V → List ℕ) (read_key : Read K) (read_value : Read V) where
@@ -128,27 +151,6 @@ module _ {K V : Type 0} (spell_key : K → List ℕ) (spell_value : V → List �
       rw (flat_map-cons (place spell) p ps, append_assoc, one, others) refl
 
   -- ---- the whole
-
-  abbrev head_text : Head → List ℕ
-  head_text head = word MAGIC ++ word VERSION ++ number head.root ++ word head.len ++ word head.limit ++ word head.count
-
-  -- the numbers of a head are words
-  pub record FitsHead (head : Head) : Type 0 where
-    pub root : IfSome head.root (λ n. n < 2 ^ 64 - 1)
-    pub len : head.len < 2 ^ 64
-    pub limit : head.limit < 2 ^ 64
-    pub count : head.count < 2 ^ 64
-
-  head-again : (head : Head) (rest : List ℕ) → FitsHead head → head_at (head_text head ++ rest) ≡ Ok (head, rest)
-  unfolding head_at
-  head-again head rest fits =
-      let count : List ℕ = word head.count ++ rest in
-      let limit : List ℕ = word head.limit ++ count in
-      let len : List ℕ = word head.len ++ limit in
-      let root : List ℕ = number head.root ++ len in
-      let version : List ℕ = word VERSION ++ root in
-      let shape : head_text head ++ rest ≡ word MAGIC ++ version = simp append_assoc in
-      rw (shape, this-again MAGIC Magic version (omega arith), this-again VERSION Version root (omega arith), number-again head.root len fits.root, word-again head.len limit fits.len, word-again head.limit count fits.limit, word-again head.count rest fits.count) refl
 
   pub image-again : (head : Head) (ps : List (Option (View (K × V)))) → FitsHead head → length ps ≡ head.count → ArePlacesRead ps
       → (body : List ℕ) → body ≡ head_text head ++ flat_map (place spell) ps → check_sum body < 2 ^ 64

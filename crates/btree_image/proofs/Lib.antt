@@ -3,3 +3,4 @@ pub mod Again
 pub mod PlaceLemmas
 pub mod CountLemmas
 pub mod Put
+pub mod Whole

@@ -50,3 +50,24 @@ module _ {X : Type 0} (parse : Parse X) (spell : X → List ℕ) (xs : List X) w
           | inr past ↦ rw (get-past xs k (omega arith)) tt
         ],
       )
+
+module _ {X : Type 0} where
+  -- the rest of a list begins with the value at its index
+  pub drop-get : (xs : List X) (i : ℕ) (x : X) → slice_get xs i ≡ Some x → drop i xs ≡ x ∷ drop (i + 1) xs
+  drop-get [] i x at = absurd cc
+  drop-get (y ∷ ys) zero x at = let same : y ≡ x = cc in ap (λ (z : X). z ∷ ys) same
+  drop-get (y ∷ ys) (suc i) x at =
+      let shift : suc i + 1 ≡ suc (i + 1) = omega arith in
+      drop-get ys i x at ∙ ap (λ (k : ℕ). x ∷ drop k (y ∷ ys)) (sym shift)
+
+  pub get-drop : (xs : List X) (i : ℕ) (x : X) (rest : List X) → drop i xs ≡ x ∷ rest → slice_get xs i ≡ Some x
+  get-drop [] zero x rest e = absurd cc
+  get-drop [] (suc i) x rest e = absurd cc
+  get-drop (y ∷ ys) zero x rest e = let same : y ≡ x = cc in ap Some same
+  get-drop (y ∷ ys) (suc i) x rest e = get-drop ys i x rest e
+
+  -- past the end there is nothing to begin with
+  pub drop-none : (xs : List X) (i : ℕ) → i < length xs → drop i xs ≡ [] → ⊥
+  drop-none [] i lt e = omega arith
+  drop-none (y ∷ ys) zero lt e = absurd cc
+  drop-none (y ∷ ys) (suc i) lt e = drop-none ys i (omega arith) e

@@ -6,4 +6,5 @@ pub mod Image
 pub mod Reading
 pub mod Gives
 pub mod Saved
+pub mod SavedLaws
 pub mod Written

@@ -106,7 +106,7 @@ module _ {A B : Type 0} (spell_first : A → List ℕ) (spell_second : B → Lis
   module _ (first : (bytes rest : List ℕ) (x : A) → AreBytes bytes → read_first bytes ≡ Some (x, rest) → bytes ≡ spell_first x ++ rest)
       (second : (bytes rest : List ℕ) (x : B) → AreBytes bytes → read_second bytes ≡ Some (x, rest) → bytes ≡ spell_second x ++ rest) where
     second_is : (bytes rest : List ℕ) (a : A) (after : List ℕ) (x : A × B) → AreBytes bytes → bytes ≡ spell_first a ++ after → (read : Option (B × List ℕ)) → read_second after ≡ read
-        → option_map (λ s. ((a, s.0), s.1)) read ≡ Some (x, rest) → bytes ≡ pair_bytes spell_first spell_second x ++ rest
+        → option_map {U = (A × B) × List ℕ} (λ s. ((a, s.0), s.1)) read ≡ Some (x, rest) → bytes ≡ pair_bytes spell_first spell_second x ++ rest
     second_is bytes rest a after x fits begins None h e = absurd cc
     second_is bytes rest a after x fits begins (Some s) h e =
         let after_fits : AreBytes after = AreBytes-rest (spell_first a) after (subst AreBytes begins fits) in
@@ -115,7 +115,7 @@ module _ {A B : Type 0} (spell_first : A → List ℕ) (spell_second : B → Lis
         (begins ∙ ap (λ (t : List ℕ). spell_first a ++ t) then ∙ sym (append_assoc (spell_first a) (spell_second s.0) s.1))
 
     first_is : (bytes rest : List ℕ) (x : A × B) → AreBytes bytes → (read : Option (A × List ℕ)) → read_first bytes ≡ read
-        → option_and_then (λ f. option_map (λ s. ((f.0, s.0), s.1)) (read_second f.1)) read ≡ Some (x, rest) → bytes ≡ pair_bytes spell_first spell_second x ++ rest
+        → option_and_then {U = (A × B) × List ℕ} (λ f. option_map {U = (A × B) × List ℕ} (λ s. ((f.0, s.0), s.1)) (read_second f.1)) read ≡ Some (x, rest) → bytes ≡ pair_bytes spell_first spell_second x ++ rest
     first_is bytes rest x fits None h e = absurd cc
     first_is bytes rest x fits (Some f) h e = second_is bytes rest f.0 f.1 x fits (first bytes f.1 f.0 fits h) (read_second f.1) refl e
 

@@ -107,21 +107,19 @@ pub(crate) fn read_place<K: Spelled, V: Spelled>(
         (place_at K.read V.read is_last bytes.now) }
 {
     let (kind, rest) = read_word(bytes)?;
-    match kind {
-        0 => {
-            if is_last {
-                return stop(BadImage::Vacant, bytes);
-            }
-            Ok((None, rest))
-        }
-        1 => {
-            let (node, rest) = read_leaf(rest)?;
-            Ok((Some(node), rest))
-        }
-        2 => {
-            let (node, rest) = read_internal(rest)?;
-            Ok((Some(node), rest))
-        }
-        _ => stop(BadImage::Kind, bytes),
+    if kind == 1 {
+        let (node, rest) = read_leaf(rest)?;
+        return Ok((Some(node), rest));
     }
+    if kind == 2 {
+        let (node, rest) = read_internal(rest)?;
+        return Ok((Some(node), rest));
+    }
+    if kind != 0 {
+        return stop(BadImage::Kind, bytes);
+    }
+    if is_last {
+        return stop(BadImage::Vacant, bytes);
+    }
+    Ok((None, rest))
 }

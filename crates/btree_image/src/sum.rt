@@ -2,11 +2,7 @@
 ghost use Rattle.std.specs.Prelude.{◌≡◌};
 ghost use Rattle.btree_image.specs.Image.{check_sum};
 
-/// What the check sum of no bytes is.
-pub const SUM_START: u64 = 14695981039346656037;
-
-/// What each step of a check sum multiplies by.
-pub const SUM_FACTOR: u64 = 1099511628211;
+use crate::{SUM_FACTOR, SUM_START};
 
 /// Returns the check sum of bytes, FNV-1a of 64 bits. It finds what a disk or a wire does by accident, and no one who means to deceive.
 pub fn check_sum_of(bytes: &[u8]) -> u64

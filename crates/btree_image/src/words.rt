@@ -77,10 +77,10 @@ pub(crate) fn read_count(bytes: &[u8], most: u64) -> Result<(u64, &[u8]), Stop>
 pub(crate) fn read_value<T: Spelled>(bytes: &[u8]) -> Result<(T, &[u8]), Stop>
     ensures { Gives (λ x. (x.0, x.1.now)) result (value_at T.read bytes.now) }
 {
-    match T::take(bytes) {
-        Some(value) => Ok(value),
-        None => stop(BadImage::Value, bytes),
-    }
+    let Some(value) = T::take(bytes) else {
+        return stop(BadImage::Value, bytes);
+    };
+    Ok(value)
 }
 
 // Appends a word.

@@ -1,11 +1,13 @@
 //! Why a map is not opened, or not saved.
 ghost use Rattle.std.specs.Prelude.{◌≡◌};
-ghost use Rattle.btree_save.specs.declared.error.OpenError.TheVariants as opens;
+ghost use Rattle.btree_save.specs.Errors.{error_of};
 ghost use Rattle.btree_save.specs.declared.error.SaveError.TheVariants as saves;
 
 use btree_image::{BadImage, ReadError};
 use btree_item::Fault;
 use std::alloc::AllocError;
+use std::error::Error;
+use std::fmt::{Display, Formatter, Result as Written, Write};
 use std::io;
 
 /// Why bytes are not opened.
@@ -39,9 +41,53 @@ impl From<AllocError> for SaveError {
 }
 
 // The error of a read of so many bytes.
-pub(crate) fn of_read(error: ReadError, count: usize) -> OpenError {
+pub(crate) fn of_read(error: ReadError, count: usize) -> OpenError
+    ensures { result ≡ error_of count error }
+{
     match error {
         ReadError::Store => OpenError::Store,
         ReadError::Image(stop) => OpenError::Image(stop.fault, count.saturating_sub(stop.left)),
     }
 }
+
+// What is wrong with bytes, in words.
+fn text_of(fault: BadImage) -> &'static str {
+    match fault {
+        BadImage::Short => "the file ends too early",
+        BadImage::Magic => "this is no saved map",
+        BadImage::Version => "another version",
+        BadImage::Kind => "neither a node nor a vacant place",
+        BadImage::Count => "a node has no items, or too many",
+        BadImage::Value => "no such key or value",
+        BadImage::Vacant => "the last place has no node",
+        BadImage::Sum => "the check sum is wrong",
+        BadImage::Trailing => "bytes after the end",
+    }
+}
+
+impl Display for OpenError {
+    fn fmt<W: Write>(&self, f: &mut Formatter<W>) -> Written {
+        match self {
+            OpenError::Read(error) => write!(f, "{error}"),
+            OpenError::Store => f.write_str("no room for a node"),
+            OpenError::Image(fault, at) => {
+                let text = text_of(*fault);
+                write!(f, "at byte {at}: {text}")
+            }
+            OpenError::Tree(fault) => write!(f, "{fault}"),
+        }
+    }
+}
+
+impl Error for OpenError {}
+
+impl Display for SaveError {
+    fn fmt<W: Write>(&self, f: &mut Formatter<W>) -> Written {
+        match self {
+            SaveError::Memory => f.write_str("no memory for the bytes"),
+            SaveError::Write(error) => write!(f, "{error}"),
+        }
+    }
+}
+
+impl Error for SaveError {}
