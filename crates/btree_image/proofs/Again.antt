@@ -61,14 +61,12 @@ many-again parse spell (x ∷ xs) rest h =
 abbrev pub head_text : Head → List ℕ
 head_text head = word MAGIC ++ word VERSION ++ number head.root ++ word head.len ++ word head.limit ++ word head.count
 
-
 -- the numbers of a head are words
 pub record FitsHead (head : Head) : Type 0 where
   pub root : IfSome head.root (λ n. n < 2 ^ 64 - 1)
   pub len : head.len < 2 ^ 64
   pub limit : head.limit < 2 ^ 64
   pub count : head.count < 2 ^ 64
-
 
 head-again : (head : Head) (rest : List ℕ) → FitsHead head → head_at (head_text head ++ rest) ≡ Ok (head, rest)
 unfolding head_at

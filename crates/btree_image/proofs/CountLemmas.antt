@@ -68,3 +68,34 @@ module _ {T : Type 0} where
     pub within : end ≤ id
     pub all : (k : ℕ) → k < id → IsSome (get m k) → k < end
     pub last : 0 < end → IsSome (get m (end - 1))
+
+  pub found-start : (m : Content T) → HasFound m 0 0 0
+  found-start m = record { counted = refl; few = omega arith; within = omega arith; all = λ k h used. absurd (omega arith); last = λ h. absurd (omega arith) }
+
+  pub found-more : (m : Content T) (found end id : ℕ) → IsSome (get m id) → HasFound m found end id → HasFound m (found + 1) (id + 1) (id + 1)
+  found-more m found end id used before =
+      let last : id + 1 - 1 ≡ id = omega arith in
+      record {
+        counted = omega (arith, before.counted, step-used m id used);
+        few = omega (arith, before.few);
+        within = omega arith;
+        all = λ k h used. h;
+        last = λ h. rw last used;
+      }
+
+  pub found-none : (m : Content T) (found end id : ℕ) → ¬ IsSome (get m id) → HasFound m found end id → HasFound m found end (id + 1)
+  found-none m found end id unused before =
+      record {
+        counted = omega (arith, before.counted, step-unused m id unused);
+        few = omega (arith, before.few);
+        within = omega (arith, before.within);
+        all = λ k h used. elim (cases_lt k id) [
+          | inl lt ↦ before.all k lt used
+          | inr le ↦ absurd (let same : k ≡ id = omega arith in unused (rw same at used))
+        ];
+        last = before.last;
+      }
+
+  -- all were found: the others are below
+  pub found-all : (m : Content T) (found end id : ℕ) → found ≡ len m → HasFound m found end id → (k : ℕ) → IsSome (get m k) → k < end
+  found-all m found end id all before k used = before.all k (all-below m id (omega (arith, before.counted)) k used) used

@@ -19,12 +19,14 @@ module _ {X : Type 0} where
     pub record HasRead (start : List ℕ) (front : List X) (i : ℕ) (bytes : List ℕ) : Type 0 where
       pub so_far : with_front front (many parse (count - i) bytes) ≡ many parse count start
 
+    none : (read : Result (List X × List ℕ) Stop) → with_front [] read ≡ read
+    none (Ok y) = refl
+    none (Err e) = refl
+
     pub begins : (start : List ℕ) → HasRead start [] 0 start
-    begins start = record { so_far = none (many parse count start) }
-      where
-        none : (read : Result (List X × List ℕ) Stop) → with_front [] read ≡ read
-        none (Ok y) = refl
-        none (Err e) = refl
+    begins start =
+        let all : count - 0 ≡ count = omega arith in
+        record { so_far = ap (λ (n : ℕ). with_front [] (many parse n start)) all ∙ none (many parse count start) }
 
     pub goes_on : (start : List ℕ) (front : List X) (i : ℕ) (bytes : List ℕ) (x : X) (after : List ℕ) → i < count → parse (count - (i + 1)) bytes ≡ Ok (x, after)
         → HasRead start front i bytes → HasRead start (front ++ x ∷ []) (i + 1) after
@@ -48,3 +50,7 @@ module _ {X : Type 0} where
         let k : count - i ≡ 0 = omega arith in
         let one : with_front front (many parse (count - i) bytes) ≡ Ok (front, bytes) = rw k (ap (λ (xs : List X). Ok (xs, bytes)) (append-nil front)) in
         sym before.so_far ∙ one
+
+    -- the first value is read
+    pub begins_one : (start : List ℕ) (x : X) (after : List ℕ) → 0 < count → parse (count - 1) start ≡ Ok (x, after) → HasRead start (x ∷ []) 1 after
+    begins_one start x after some h = goes_on start [] 0 start x after some h (begins start)

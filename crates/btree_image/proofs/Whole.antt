@@ -99,7 +99,7 @@ module _ {K V : Type 0} (spell_key : K → List ℕ) (spell_value : V → List �
         let next : places_of node_at (id + 1) ≡ places_of node_at id ++ node_at id ∷ [] = (let more : id + 1 ≡ suc id = omega arith in ap (places_of node_at) more) in
         let one : flat_map spell (node_at id ∷ []) ≡ spell p = flat_map-cons spell (node_at id) [] ∙ append-nil (spell (node_at id)) ∙ ap spell at in
         let both : flat_map spell (places_of node_at (id + 1)) ≡ flat_map spell (places_of node_at id) ++ spell p =
-            ap (flat_map spell) next ∙ flat_map-append spell (places_of node_at id) (node_at id ∷ []) ∙ ap (λ (t : List ℕ). flat_map spell (places_of node_at id) ++ t) one in
+        ap (flat_map spell) next ∙ flat_map-append spell (places_of node_at id) (node_at id ∷ []) ∙ ap (λ (t : List ℕ). flat_map spell (places_of node_at id) ++ t) one in
         record {
           text = is ∙ ap (λ (t : List ℕ). t ++ spell p) before.text ∙ append_assoc start (flat_map spell (places_of node_at id)) (spell p) ∙ ap (λ (t : List ℕ). start ++ t) (sym both);
           read = λ k h. elim (cases_eq k id) [

@@ -33,6 +33,7 @@ fn read_branch<K: Spelled, V: Spelled>(bytes: &[u8]) -> Result<(Item<K, V>, usiz
 }
 
 // Reads so many items of a leaf.
+
 fn read_items<K: Spelled, V: Spelled>(
     parent: Option<usize>,
     count: u64,
@@ -63,6 +64,7 @@ fn read_leaf<K: Spelled, V: Spelled>(bytes: &[u8]) -> Result<(Node<K, V>, &[u8])
 }
 
 // Reads so many branches of an internal node, at least one.
+
 fn read_branches<K: Spelled, V: Spelled>(
     parent: Option<usize>,
     first: usize,

@@ -8,6 +8,6 @@ use Rattle.btree_image.proofs.reading.read_branches.Given as goal
 
 abbrev pub invariant-loop : goal.invariant-loop
 invariant-loop g l =
-    (view_of l.node ≡ internal l.parent l.first (branches_of (view_of l.node)))
+    (view_of l.node ≡ internal l.fn.parent l.first (branches_of (view_of l.node)))
     × (length (branches_of (view_of l.node)) ≡ l.counter)
     × HasRead (λ left. branch_at g.K.Spelled.read g.V.Spelled.read) l.count l.bytes (branches_of (view_of l.node)) l.counter l.rest
