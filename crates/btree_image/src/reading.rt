@@ -43,14 +43,14 @@ fn read_items<K: Spelled, V: Spelled>(
     requires fits { count ≤ LEAF_SLOTS }
     ensures { Gives (λ x. (view_of x.0, x.1.now)) result (leaf_with K.read V.read parent count bytes.now) }
 {
-    let mut leaf = LeafNode::empty(parent);
+    let mut node = Node::Leaf(LeafNode::empty(parent));
     let mut rest = bytes;
     for _ in 0..count {
         let (item, after) = read_item(rest)?;
-        leaf.push_right(item);
+        node.push_right(item, None);
         rest = after;
     }
-    Ok((Node::Leaf(leaf), rest))
+    Ok((node, rest))
 }
 
 // Reads a leaf, after its kind.
