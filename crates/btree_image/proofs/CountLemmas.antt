@@ -20,13 +20,13 @@ module _ {T : Type 0} where
   -- there are no more of them than numbers in use
   used-le : (n : ℕ) (m : Content T) → used_below m n ≤ len m
   used-le zero m = omega arith
-  used-le (suc n) m = by_value (get m n) refl
+  used-le (suc n) m = by_value (used-le n) (get m n) refl
     where
-      by_value : (o : Option T) → get m n ≡ o → used_below m n + times_used (get m n) ≤ len m
-      by_value None is = let here : times_used (get m n) ≡ 0 = rw is refl in omega (arith, used-le n m, here)
-      by_value (Some v) is =
+      by_value : ((k : Content T) → used_below k n ≤ len k) → (o : Option T) → get m n ≡ o → used_below m n + times_used (get m n) ≤ len m
+      by_value below None is = let here : times_used (get m n) ≡ 0 = rw is refl in omega (arith, below m, here)
+      by_value below (Some v) is =
           let here : times_used (get m n) ≡ 1 = rw is refl in
-          omega (arith, used-le n (remove m n), same-below m n n (omega arith), len-remove_used m n v is, here)
+          omega (arith, below (remove m n), same-below m n n (omega arith), len-remove_used m n v is, here)
 
   -- and one fewer, if a number from there on is used
   used-more : (m : Content T) (n id : ℕ) (o : Option T) → get m id ≡ o → IsSome o → n ≤ id → used_below m n + 1 ≤ len m

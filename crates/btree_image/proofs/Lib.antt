@@ -4,3 +4,4 @@ pub mod PlaceLemmas
 pub mod CountLemmas
 pub mod Put
 pub mod Whole
+pub mod StoreLemmas

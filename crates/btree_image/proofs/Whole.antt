@@ -18,7 +18,6 @@ use Rattle.btree_image.specs.Image.{check_sum, place, word}
 use Rattle.btree_image.specs.Pairs.{pair_bytes}
 use Rattle.btree_image.specs.Reading.{image_of}
 use Rattle.btree_image.specs.Saved.{IsImageOf, IsSavedAs}
-use Rattle.btree_image.specs.SavedLaws.{saved-once, saved-addresses}
 use Rattle.btree_image.specs.Spelled.{Read}
 use Rattle.btree_image.specs.Written.{AreSized, IsPast, IsPlaceRead, head_bytes, places_of}
 use Rattle.btree_image.proofs.Again.{ArePlacesRead, FitsHead, image-again, vacant-again}

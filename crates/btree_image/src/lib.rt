@@ -4,6 +4,7 @@
 mod fault;
 mod head;
 mod numbers;
+mod places;
 mod reading;
 mod spelled;
 mod sum;
@@ -11,6 +12,7 @@ mod words;
 mod writing;
 
 pub use fault::{BadImage, ReadError, Stop};
+pub use places::read_tree;
 pub use spelled::Spelled;
 pub use sum::check_sum_of;
 pub use writing::bytes_of;

@@ -31,7 +31,6 @@ fn put_item<K: Spelled, V: Spelled, A: Allocator>(
 }
 
 // Appends the items of a leaf.
-#[tactic(none)]
 fn put_items<K: Spelled, V: Spelled, A: Allocator>(
     out: &mut Vec<u8, A>,
     node: &Node<K, V>,
@@ -51,7 +50,6 @@ fn put_items<K: Spelled, V: Spelled, A: Allocator>(
 }
 
 // Appends the items of an internal node, each with the child after it.
-#[tactic(none)]
 fn put_branches<K: Spelled, V: Spelled, A: Allocator>(
     out: &mut Vec<u8, A>,
     node: &Node<K, V>,
@@ -72,7 +70,6 @@ fn put_branches<K: Spelled, V: Spelled, A: Allocator>(
 }
 
 // Appends a node, with its kind.
-#[tactic(none)]
 fn put_node<K: Spelled, V: Spelled, A: Allocator>(
     out: &mut Vec<u8, A>,
     node: &Node<K, V>,
@@ -101,7 +98,6 @@ fn put_node<K: Spelled, V: Spelled, A: Allocator>(
 }
 
 // Returns the number after the greatest that is used.
-#[tactic(none)]
 fn count_places<K, V, C: NodesMut<K, V>>(tree: &RawBTree<K, V, C>) -> usize
     ensures { IsPast tree.now result }
 {
@@ -121,7 +117,6 @@ fn count_places<K, V, C: NodesMut<K, V>>(tree: &RawBTree<K, V, C>) -> usize
 }
 
 // Appends the places below `count`.
-#[tactic(none)]
 fn put_places<K: Spelled, V: Spelled, C: NodesMut<K, V>, A: Allocator>(
     out: &mut Vec<u8, A>,
     tree: &RawBTree<K, V, C>,
@@ -162,7 +157,6 @@ fn put_head<K, V, C: NodesMut<K, V>, A: Allocator>(
 /// Returns the bytes of a well formed tree.
 ///
 /// It reads each node once, and asks for each number up to the greatest that is used.
-#[tactic(none)]
 pub fn bytes_of<K: Spelled + Ord, V: Spelled, C: NodesMut<K, V>, A: Allocator>(
     alloc: A,
     tree: &RawBTree<K, V, C>,
