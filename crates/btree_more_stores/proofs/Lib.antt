@@ -1,4 +1,5 @@
 -- Stores in a table of places. Main theorem: in TableLemmas, that each call keeps what `IsTable` says of the places.
+pub mod CapacityLaws
 pub mod SlotLemmas
 pub mod TableLemmas
 pub mod Crossing

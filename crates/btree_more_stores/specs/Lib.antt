@@ -1,4 +1,3 @@
-pub mod CapacityLaws
 pub mod Gated
 pub mod Lends
 pub mod Odd

@@ -261,7 +261,7 @@ impl<K: Ord, V, C: NodesMut<K, V>> RawBTree<K, V, C> {
     /// Returns whether the tree has a root and at most 32 levels, and is well formed except for its length and the number of items of node
     /// `id`: it may have one item too many or too few, and the root may also be empty. This is what `rebalance` requires of the tree.
     ///
-    /// For each of the 32 heights that such a tree may have, it visits at most n + 1 of n nodes.
+    /// It reads each node of such a tree once, and stops at the first that is wrong.
     pub fn is_off_by_one(&self, id: usize) -> bool
         ensures { IsTrue result ↔ IsOffByOneAt K.cmp self.now id }
     {

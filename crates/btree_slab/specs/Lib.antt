@@ -62,7 +62,6 @@ pub use Rattle.btree_range_map.specs.Places as RangeMapPlaces
 pub use Rattle.btree_range_map.specs.Ranges as RangeMapRanges
 pub use Rattle.btree_range_map.specs.SameRanges as RangeMapSame
 pub use Rattle.btree_range_map.specs.Series as RangeMapSeries
-pub use Rattle.btree_range_map.specs.Span as RangeMapSpan
 pub use Rattle.btree_range_map.specs.State as RangeMapState
 pub use Rattle.btree_range_map.specs.Updates as RangeMapUpdates
 pub use Rattle.btree_range_set.specs.Gaps

@@ -8,11 +8,11 @@ use Rattle.btree_valid.proofs.VerdictLemmas.{own-blamed}
 module _ {K V : Type 0} (content : Content (Node K V)) (cmp : K → K → Ordering) (spot : Spot K) (met : Met) where
   -- the walk is in a part below its root, and has met no leaf on another level; after the first child it has met one
   abbrev pub AreMet : (index : ℕ) (passed : Met) → Type 0
-  AreMet index passed = (own : Option ℕ) (h : ℕ) (t : Subtree (K × V) (suc h)) → BeginsAt content cmp (freed content cmp spot own) (suc h) t → CanMeet (spot.level + suc h) met
+  AreMet index passed = (own : Option ℕ) (h : ℕ) (t : Subtree (K × V) (suc h)) → BeginsAt content cmp None (freed content cmp spot own) (suc h) t → CanMeet (spot.level + suc h) met
       → CanMeet (spot.level + suc h) passed × (0 < index → passed.leaf_level ≡ Some (spot.level + suc h))
 
   -- no part begins on a level that is too deep
-  pub too-deep : 32 ≤ spot.level → (own : Option ℕ) (h : ℕ) (t : Subtree (K × V) h) → BeginsAt content cmp (freed content cmp spot own) h t → ⊥
+  pub too-deep : 32 ≤ spot.level → (own : Option ℕ) (h : ℕ) (t : Subtree (K × V) h) → BeginsAt content cmp None (freed content cmp spot own) h t → ⊥
   too-deep deep own h t b = let low = b.low in omega arith
 
   -- the walk has met nothing below a node that it has entered
@@ -20,8 +20,8 @@ module _ {K V : Type 0} (content : Content (Node K V)) (cmp : K → K → Orderi
   start-met counted same own h t b can = (subst (λ l. IfSome l (λ first. first ≡ spot.level + suc h)) (sym same) can, λ some. absurd (omega arith))
 
   module _ (v : View (K × V)) (at : views content spot.id ≡ Some v) where
-    own-view : (own : Option ℕ) (h : ℕ) (t : Subtree (K × V) h) → BeginsAt content cmp (freed content cmp spot own) h t → v ≡ view_at (K × V) h own t
-    own-view own h t b = own-is content cmp (freed content cmp spot own) met v at h t b
+    own-view : (own : Option ℕ) (h : ℕ) (t : Subtree (K × V) h) → BeginsAt content cmp None (freed content cmp spot own) h t → v ≡ view_at (K × V) h own t
+    own-view own h t b = own-is content cmp None (freed content cmp spot own) met v at h t b
 
     -- the node's own checks
     pub verdict-blamed : (answer : Result ⊤ Fault) → IsNodeVerdict cmp spot.parent (option_copied spot.min) (option_copied spot.max) v answer
@@ -43,7 +43,7 @@ module _ {K V : Type 0} (content : Content (Node K V)) (cmp : K → K → Orderi
     module _ (inner : is_some (slice_get (children_of v) 0) ≡ true) (index : ℕ) (passed : Met) (left : AreMet index passed) where
       -- after the last child the leaves are met
       pub end-blamed : length (children_of v) ≤ index → BlamesAt content cmp spot met (Ok passed)
-      end-blamed last own zero t b can = absurd (not-leaf content cmp (freed content cmp spot own) met v at inner t b)
+      end-blamed last own zero t b can = absurd (not-leaf content cmp None (freed content cmp spot own) met v at inner t b)
       end-blamed last own (suc h) t b can =
           let c = parts-count h t in
           let e = ap (λ u. length (children_of u)) (own-view own (suc h) t b) in
@@ -52,27 +52,26 @@ module _ {K V : Type 0} (content : Content (Node K V)) (cmp : K → K → Orderi
       module _ (child : ℕ) (found : Some child ≡ slice_get (children_of v) index) (below : Spot K) (level : below.level ≡ spot.level + 1) (parent : below.parent ≡ Some spot.id) (id : below.id ≡ child)
           (min : option_copied below.min ≡ nearest_of (separator_before v index) (option_copied spot.min)) (max : option_copied below.max ≡ nearest_of (separator_after v index) (option_copied spot.max))
           (answer : Result Met Fault) (blames : BlamesAt content cmp below passed answer) where
-        module _ (own : Option ℕ) (h : ℕ) (t : Subtree (K × V) (suc h)) (b : BeginsAt content cmp (freed content cmp spot own) (suc h) t) (can : CanMeet (spot.level + suc h) met) where
+        module _ (own : Option ℕ) (h : ℕ) (t : Subtree (K × V) (suc h)) (b : BeginsAt content cmp None (freed content cmp spot own) (suc h) t) (can : CanMeet (spot.level + suc h) met) where
           abbrev Child : (low high : Option K) → Type 0
-          Child low high = ChildAt cmp (views content) h low high own (Some t.0) t.1 t.2 index child
+          Child low high = ChildAt cmp None (views content) h low high own (Some t.0) t.1 t.2 index child
 
           child-between : (low high : Option K) → AreBetween cmp low high (items_under (K × V) (suc h) t) → Child low high
           child-between low high between =
-              child-at cmp (views content) h (Some t.0) low high own t.1 t.2 (record {
+              child-at cmp None (views content) h (Some t.0) low high own t.1 t.2 (record {
                 rise = rises cmp (items_under (K × V) (suc h) t) b.suits.ascends;
                 between = between;
                 holds = (b.suits.holds.1, b.suits.holds.2);
-                filled = b.suits.filled_below;
+                sized = b.suits.sized.1;
               }) index child (found ∙ ap (λ u. slice_get (children_of u) index) (own-view own (suc h) t b))
 
-          child-begins : (low high : Option K) (c : Child low high) → BeginsAt content cmp (freed content cmp below (Some t.0)) h c.part
+          child-begins : (low high : Option K) (c : Child low high) → BeginsAt content cmp None (freed content cmp below (Some t.0)) h c.part
           child-begins low high c = record {
             here = c.here ∙ sym id;
             low = let l = b.low in omega arith;
             suits = record {
               holds = c.suits.holds;
-              filled = (let f = c.full in omega arith, c.suits.filled.1);
-              filled_below = c.suits.filled_below;
+              sized = ((let f = c.full in omega arith, c.suits.sized.0.1), c.suits.sized.1);
               ascends = c.suits.ascends;
               between = record { above = tt; below = tt };
             };
@@ -123,7 +122,7 @@ module _ {K V : Type 0} (content : Content (Node K V)) (cmp : K → K → Orderi
 
         -- the fault of a child
         pub child-blamed : (fault : Fault) → answer ≡ Err fault → BlamesAt content cmp spot met (Err fault)
-        child-blamed fault err own zero t b can = absurd (not-leaf content cmp (freed content cmp spot own) met v at inner t b)
+        child-blamed fault err own zero t b can = absurd (not-leaf content cmp None (freed content cmp spot own) met v at inner t b)
         child-blamed fault err own (suc h) t b can = by own h t b can fault err
 
         -- and without one the children after it come next

@@ -18,7 +18,7 @@ pub use Rattle.btree_laws.proofs.Trees.Numbers.{numbers-subtree, zero-or, same-o
 pub use Rattle.btree_laws.proofs.Trees.Represented.{represented-is}
 pub use Rattle.btree_laws.proofs.Trees.Sizes.{view-size, view-parent}
 pub use Rattle.btree_laws.proofs.Trees.Subtrees.{represents-of}
-pub use Rattle.btree_laws.specs.Focus.Subtree.{Holds, Subtree, id_of, items_under, times_under, count_at, view_at, IsFilled, later_items}
+pub use Rattle.btree_laws.specs.Focus.Subtree.{Holds, Subtree, id_of, items_under, times_under, count_at, view_at, IsFilled, IsFilledBelow, later_items}
 pub use Rattle.btree_laws.specs.Lists.{times_listed, total}
 pub use Rattle.btree_laws.specs.Represents.{numbers_under, Represents, represented}
 pub use Rattle.btree_laws.specs.TreeState.{pairs_under, views}
@@ -27,13 +27,14 @@ pub use Rattle.btree_node.specs.Node.{view_of}
 pub use Rattle.btree_node.specs.declared.node.Node.{Node}
 pub use Rattle.btree_store.specs.Content.{Content}
 pub use Rattle.btree_valid.specs.Faults.{AreBetween, Allows}
-pub use Rattle.btree_valid.specs.OffByOne.{CanOrder, CanPassUnder, Orders, PassesUnder, IsOffByOneWithHeight}
 pub use Rattle.btree_valid.specs.Positions.{IsFirstLeaf, IsLeafDepth, IsMetBelow, PassesAt, Spotted, root_spot, step_down, nearest_of, Leads}
-pub use Rattle.btree_valid.specs.Spots.{Suits, BeginsAt, CanMeet, MeetsAt, BlamesAt, FindsAt, least_between}
+pub use Rattle.btree_valid.specs.Sizes.{AreSized, IsSizedNode, PassesNode, least_between}
+pub use Rattle.btree_valid.specs.Spots.{Suits, BeginsAt, CanMeet, MeetsAt, BlamesAt, FindsAt}
 unfoldable pub use Rattle.btree_valid.specs.Verdicts.{numbers_met}
 pub use Rattle.btree_valid.specs.Verdicts.{NamesTree}
 pub use Rattle.btree_valid.specs.declared.faults.Met.{Met}
 pub use Rattle.btree_valid.specs.declared.faults.Spot.{Spot}
+pub use Rattle.btree_valid.specs.declared.off_by_one.Exempt.{Exempt}
 pub use Rattle.btree_view.specs.Checks.{FirstFailed, IsNodeVerdict, node_faults, is_judged_as_root, PassesCheck}
 pub use Rattle.btree_view.specs.Separators.{separator_after, separator_before}
 pub use Rattle.btree_view.specs.View.{NodeMap, View, children_of, internal, items_of, leaf, size_of, branches_of, parent_of, children_in, most_of}

@@ -57,7 +57,7 @@ module _ {K V : Type 0} (content : Content (Node K V)) (cmp : K → K → Orderi
     next = λ none way a f. (way, a, f, refl);
   }
 
-  module _ (after : Met) (height : ℕ) (f : HasFoundPart content cmp spot met after height) where
+  module _ (after : Met) (height : ℕ) (f : HasFoundPart content cmp None spot met after height) where
     stands : StandsAt cmp (views content) height f.part (spotted spot)
     stands = record { here = f.begins.here; suits = f.begins.suits }
 
@@ -90,9 +90,9 @@ module _ {K V : Type 0} (content : Content (Node K V)) (cmp : K → K → Orderi
     spot-is : spotted spot ≡ root_spot root
     spot-is = λ i. record { depth = top i; id = id i; parent = parent i; min = min i; max = max i }
 
-    all-met : (after : Met) (h : ℕ) → HasFoundPart content cmp spot met after h → MeetsAt content cmp spot met (Ok after) → HasMetTree cmp content (Some root) len after
+    all-met : (after : Met) (h : ℕ) → HasFoundPart content cmp None spot met after h → MeetsAt content cmp None spot met (Ok after) → HasMetTree cmp content (Some root) len after
     all-met after h f meets =
-        let suits : Suits cmp None None (views content) None h f.part = retarget cmp (views content) h f.part (option_copied spot.min) (option_copied spot.max) None None spot.parent None min max parent f.begins.suits in
+        let suits : Suits None cmp None None (views content) None h f.part = retarget cmp None (views content) h f.part (option_copied spot.min) (option_copied spot.max) None None spot.parent None min max parent f.begins.suits in
         let here : id_of (K × V) h f.part ≡ root = f.begins.here ∙ id in
         let few_numbers = numbers-low content cmp len laws root h f.part here suits in
         let shape = represents-of (K × V) (views content) h None f.part suits.holds in
@@ -119,7 +119,7 @@ module _ {K V : Type 0} (content : Content (Node K V)) (cmp : K → K → Orderi
         }
 
     -- the answer for the whole tree
-    pub all-named : (answer : Result Met Fault) → FindsAt content cmp spot met answer → MeetsAt content cmp spot met answer → NamesAt content cmp spot met answer → NamesTree cmp content (Some root) len answer
+    pub all-named : (answer : Result Met Fault) → FindsAt content cmp None spot met answer → MeetsAt content cmp None spot met answer → NamesAt content cmp spot met answer → NamesTree cmp content (Some root) len answer
     all-named (Err fault) finds meets names = subst (λ s. IsFirstFault cmp (views content) (IsMetBelow (views content) s) fault) spot-is (names (spotted spot) (knows-origin content cmp spot met top unmet))
     all-named (Ok after) finds meets names = all-met after finds.0 finds.1 meets
 
@@ -135,7 +135,7 @@ module _ {K V : Type 0} (content : Content (Node K V)) (cmp : K → K → Orderi
       inl (fault, subst (λ s. IsFirstFault cmp (views content) (IsMetBelow (views content) s) fault) start-is found, refl)
 
   -- and none
-  pub node-passed : (after : Met) → FindsAt content cmp spot met (Ok after) → (depth : ℕ) → depth ≡ unwrap_or after.leaf_level 0 → IsVerdictBelow cmp content (start_spot id parent min max) (Ok depth)
+  pub node-passed : (after : Met) → FindsAt content cmp None spot met (Ok after) → (depth : ℕ) → depth ≡ unwrap_or after.leaf_level 0 → IsVerdictBelow cmp content (start_spot id parent min max) (Ok depth)
   node-passed after finds depth at =
       let f = finds.1 in
       let height : ℕ = finds.0 in

@@ -1,11 +1,12 @@
 -- The children that the walk of the validator has passed make a part that suits.
-use Rattle.btree_valid.proofs.Common.{◌≡◌, ◌≤◌, ◌<◌, ◌∷◌, ◌++◌, [], ◌-◌, ℕ, suc, inl, inr, List, length, map, Option, Some, None, Result, Ok, refl, sym, subst, arith, IsTotalOrder, AllByRecursion, keys_of, ⊤, IfSome, IsFalse, Ordering, Less, Fault, FirstFailed, IsNodeVerdict, PassesCheck, is_judged_as_root, node_faults, NodeMap, View, items_of, most_of, parent_of, size_of, Holds, IsFilled, Subtree, count_at, items_under, later_items, Rises, rises, AreBetween, Suits, least_between}
+use Rattle.btree_valid.proofs.Common.{◌≡◌, ◌≤◌, ◌<◌, ◌∷◌, ◌++◌, [], ◌-◌, ℕ, suc, inl, inr, List, length, map, Option, Some, None, Result, Ok, refl, sym, subst, arith, IsTotalOrder, AllByRecursion, keys_of, ⊤, IfSome, IsFalse, Ordering, Less, Fault, FirstFailed, IsNodeVerdict, PassesCheck, is_judged_as_root, node_faults, NodeMap, View, items_of, most_of, parent_of, size_of, Holds, IsFilled, Subtree, count_at, items_under, later_items, Rises, rises, AreBetween, Suits, least_between, AreSized, IsSizedNode, PassesNode, Exempt, IsFilledBelow, IsNearlySized, times_under, zero-or, same-or, one-other, leaf, internal, ◌<◌, ◌∙◌}
 use Rattle.std.proofs.Common.{append-nil}
 use Rattle.std.proofs.lemmas.Map.Entries.{length-keys_of}
 use Rattle.std.specs.Prelude.{IsTrue, slice_get}
 use Rattle.btree_view.specs.Checks.{BeginsAbove, EndsBelow}
-use Rattle.btree_laws.specs.Focus.Subtree.{IsFilledBelow}
 use Rattle.btree_laws.proofs.Paths.Frames.{AllByRecursion-append}
+use Rattle.btree_valid.proofs.SuitsLemmas.{AreSizedRow}
+use Rattle.btree_valid.proofs.VerdictLemmas.{least-one}
 
 -- if the answer is Ok, each check passed
 all-passed : (Passes : Fault → Type 0) (faults : List Fault) (answer : Result ⊤ Fault) → answer ≡ Ok tt → FirstFailed Passes faults answer → AllByRecursion Passes faults
@@ -19,14 +20,14 @@ module _ {K : Type 0} where
   least-filled None (Some k) n f g = f refl
   least-filled (Some k) max n f g = f refl
 
-module _ {K V : Type 0} (cmp : K → K → Ordering) (node_at : NodeMap (K × V)) (h : ℕ) (parent : Option ℕ) where
+module _ {K V : Type 0} (cmp : K → K → Ordering) (exempt : Option Exempt) (node_at : NodeMap (K × V)) (h : ℕ) (parent : Option ℕ) where
   -- each child suits between the keys around it
   abbrev pub RowSuits : (min max : Option K) (first : Subtree (K × V) h) (row : List ((K × V) × Subtree (K × V) h)) → Type 0
-  RowSuits min max first [] = Suits cmp min max node_at parent h first
-  RowSuits min max first (b ∷ row) = Suits cmp min (Some b.0.0) node_at parent h first × RowSuits (Some b.0.0) max b.1 row
+  RowSuits min max first [] = Suits exempt cmp min max node_at parent h first
+  RowSuits min max first (b ∷ row) = Suits exempt cmp min (Some b.0.0) node_at parent h first × RowSuits (Some b.0.0) max b.1 row
 
 module _ {K V : Type 0} (cmp : K → K → Ordering) (laws : IsTotalOrder cmp) where
-  above-all : (m : K) (x : K × V) (xs : List (K × V)) → cmp m x.0 ≡ Less → AllByRecursion (λ y. cmp x.0 y.0 ≡ Less) xs → AllByRecursion (λ y. cmp m y.0 ≡ Less) xs
+  pub above-all : (m : K) (x : K × V) (xs : List (K × V)) → cmp m x.0 ≡ Less → AllByRecursion (λ y. cmp x.0 y.0 ≡ Less) xs → AllByRecursion (λ y. cmp m y.0 ≡ Less) xs
   above-all m x [] less all = tt
   above-all m x (y ∷ xs) less all = (laws.trans m x.0 y.0 less all.0, above-all m x xs less all.1)
 
@@ -59,33 +60,27 @@ module _ {K V : Type 0} (cmp : K → K → Ordering) (laws : IsTotalOrder cmp) w
       let rest = last-all m (y ∷ xs) up.1 (subst (λ i. IfSome (slice_get (x.0 ∷ y.0 ∷ keys_of xs) i) (λ k. cmp k m ≡ Less)) at is) in
       (laws.trans x.0 y.0 m up.0.0 rest.0, rest)
 
-  ends-all : (max : Option K) (xs : List (K × V)) → Rises cmp xs → EndsBelow cmp max (keys_of xs) → IfSome max (λ m. AllByRecursion (λ x. cmp x.0 m ≡ Less) xs)
+  pub ends-all : (max : Option K) (xs : List (K × V)) → Rises cmp xs → EndsBelow cmp max (keys_of xs) → IfSome max (λ m. AllByRecursion (λ x. cmp x.0 m ≡ Less) xs)
   ends-all None xs up is = tt
   ends-all (Some m) xs up is = last-all m xs up is
 
   -- what the checks of a node say
-  pub record IsChecked (parent : Option ℕ) (min max : Option K) (v : View (K × V)) : Type 0 where
-    pub parent_is : parent_of v ≡ parent
-    pub filled : (least_between min max ≤ size_of v) × (size_of v ≤ most_of v)
-    pub rise : Rises cmp (items_of v)
-    pub between : AreBetween cmp min max (items_of v)
-
-  pub checked : (parent : Option ℕ) (min max : Option K) (v : View (K × V)) (answer : Result ⊤ Fault) → answer ≡ Ok tt → IsNodeVerdict cmp parent min max v answer → IsChecked parent min max v
-  checked parent min max v answer ok verdict =
+  pub checked : (id : ℕ) (parent : Option ℕ) (min max : Option K) (v : View (K × V)) (answer : Result ⊤ Fault) → answer ≡ Ok tt → IsNodeVerdict cmp parent min max v answer → PassesNode cmp None id parent min max v
+  checked id parent min max v answer ok verdict =
       let p = all-passed (PassesCheck cmp parent min max (parent_of v) (most_of v) (keys_of (items_of v))) node_faults answer ok verdict in
       let count = length-keys_of (items_of v) in
       let up = rises cmp (items_of v) p.1.1.1.1.0 in
       record {
         parent_is = p.0;
-        filled = (
+        sized = (
           least-filled min max (size_of v) (λ no. let three = p.1.1.0 no in omega arith) (λ yes. let some = p.1.1.1.0 yes in omega arith),
           let most = p.1.0 in omega arith,
         );
-        rise = up;
+        ascends = p.1.1.1.1.0;
         between = record { above = begins-all min (items_of v) up p.1.1.1.1.1.0; below = ends-all max (items_of v) up p.1.1.1.1.1.1.0 };
       }
 
-  module _ (node_at : NodeMap (K × V)) (h : ℕ) (parent : Option ℕ) where
+  module _ (exempt : Option Exempt) (node_at : NodeMap (K × V)) (h : ℕ) (parent : Option ℕ) where
     abbrev keys_in : List ((K × V) × Subtree (K × V) h) → List (K × V)
     keys_in row = map {B = K × V} (λ b. b.0) row
 
@@ -115,7 +110,7 @@ module _ {K V : Type 0} (cmp : K → K → Ordering) (laws : IsTotalOrder cmp) w
     tail-below None x more f = tt
     tail-below (Some m) x more f = f.1
 
-    pub join : (min max : Option K) (first : Subtree (K × V) h) (row : List ((K × V) × Subtree (K × V) h)) → Rises cmp (keys_in row) → AreBetween cmp min max (keys_in row) → RowSuits cmp node_at h parent min max first row → AreJoined min max first row
+    pub join : (min max : Option K) (first : Subtree (K × V) h) (row : List ((K × V) × Subtree (K × V) h)) → Rises cmp (keys_in row) → AreBetween cmp min max (keys_in row) → RowSuits cmp exempt node_at h parent min max first row → AreJoined min max first row
     join min max first [] up between s =
         let same : items_under (K × V) h first ≡ items_under (K × V) h first ++ [] = sym (append-nil (items_under (K × V) h first)) in
         record {
@@ -136,17 +131,52 @@ module _ {K V : Type 0} (cmp : K → K → Ordering) (laws : IsTotalOrder cmp) w
           holds = (s.0.holds, rest.holds);
         }
 
-    -- each child has three items or more, if there is a key
-    filled-first : (min : Option K) (key : K) (first : Subtree (K × V) h) → Suits cmp min (Some key) node_at parent h first → IsFilled 3 h (count_at (K × V) h first) × IsFilledBelow (K × V) h first
-    filled-first None key first s = (s.filled, s.filled_below)
-    filled-first (Some m) key first s = (s.filled, s.filled_below)
+module _ {K V : Type 0} (cmp : K → K → Ordering) (node_at : NodeMap (K × V)) (h : ℕ) (parent : Option ℕ) where
+  -- after a key, each child has three items or more
+  later-filled : (key : K) (max : Option K) (first : Subtree (K × V) h) (row : List ((K × V) × Subtree (K × V) h)) → RowSuits cmp None node_at h parent (Some key) max first row → AreSizedRow h node_at None first row
+  later-filled key max first [] s = (s.sized.0, s.sized.1, tt)
+  later-filled key max first (b ∷ row) s = let r = later-filled b.0.0 max b.1 row s.1 in (s.0.sized.0, s.0.sized.1, ((r.0, r.1), r.2))
 
-    pub row-filled : (key : K) (max : Option K) (first : Subtree (K × V) h) (row : List ((K × V) × Subtree (K × V) h)) → RowSuits cmp node_at h parent (Some key) max first row
-        → IsFilled 3 h (count_at (K × V) h first) × IsFilledBelow (K × V) h first × AllByRecursion (λ b. IsFilled 3 h (count_at (K × V) h b.1) × IsFilledBelow (K × V) h b.1) row
-    row-filled key max first [] s = (s.filled, s.filled_below, tt)
-    row-filled key max first (b ∷ row) s = let r = row-filled b.0.0 max b.1 row s.1 in (s.0.filled, s.0.filled_below, ((r.0, r.1), r.2))
+  first-filled : (min : Option K) (key : K) (first : Subtree (K × V) h) → Suits None cmp min (Some key) node_at parent h first → IsFilled 3 h (count_at (K × V) h first) × IsFilledBelow (K × V) h first
+  first-filled None key first s = s.sized
+  first-filled (Some m) key first s = s.sized
 
-    pub all-filled : (min max : Option K) (first : Subtree (K × V) h) (row : List ((K × V) × Subtree (K × V) h)) → 0 < length row → RowSuits cmp node_at h parent min max first row
-        → IsFilled 3 h (count_at (K × V) h first) × IsFilledBelow (K × V) h first × AllByRecursion (λ b. IsFilled 3 h (count_at (K × V) h b.1) × IsFilledBelow (K × V) h b.1) row
-    all-filled min max first [] some s = absurd (omega arith)
-    all-filled min max first (b ∷ row) some s = let f = filled-first min b.0.0 first s.0 in let r = row-filled b.0.0 max b.1 row s.1 in (f.0, f.1, ((r.0, r.1), r.2))
+  -- children that suit have their numbers of items, if there is a key, or a node is exempt
+  pub row-sized : (exempt : Option Exempt) (min max : Option K) (first : Subtree (K × V) h) (row : List ((K × V) × Subtree (K × V) h)) → (exempt ≡ None → 0 < length row) → RowSuits cmp exempt node_at h parent min max first row → AreSizedRow h node_at exempt first row
+  row-sized None min max first [] some s = let z = some refl in absurd (omega arith)
+  row-sized None min max first (b ∷ row) some s = let f = first-filled min b.0.0 first s.0 in let r = later-filled b.0.0 max b.1 row s.1 in (f.0, f.1, ((r.0, r.1), r.2))
+  row-sized (Some e) min max first [] some s = λ n v here at. s.sized n v (omega arith) at
+  row-sized (Some e) min max first (b ∷ row) some s = λ n v here at. elim (zero-or (times_under (K × V) h n first)) [
+    | inl none ↦ row-sized (Some e) (Some b.0.0) max b.1 row (λ no. absurd (cc)) s.1 n v (omega arith) at
+    | inr listed ↦ s.0.sized n v listed at
+  ]
+
+-- the number of items of a node that is exempt, or is not
+nearly-here : {A : Type 0} (node_at : NodeMap A) (root exempt id n : ℕ) (node v : View A) → node_at id ≡ Some node → IsNearlySized root exempt id node → n ≡ id → node_at n ≡ Some v → IsNearlySized root exempt n v
+nearly-here node_at root exempt id n node v here own same at =
+    let there : node_at id ≡ Some v = subst (λ m. node_at m ≡ Some v) same at in
+    let is : node ≡ v = (let q : Some node ≡ Some v = sym here ∙ there in cc) in
+    subst (λ m. IsNearlySized root exempt m v) (sym same) (subst (λ u. IsNearlySized root exempt id u) is own)
+
+module _ {K V : Type 0} (node_at : NodeMap (K × V)) (min max : Option K) (id : ℕ) where
+  -- the nodes of a leaf
+  pub leaf-sized : (exempt : Option Exempt) (parent : Option ℕ) (xs : List (K × V)) → node_at id ≡ Some (leaf parent xs) → IsSizedNode exempt min max id (leaf parent xs) → AreSized exempt min max node_at 0 (id, xs)
+  leaf-sized None parent xs here own = (own, tt)
+  leaf-sized (Some e) parent xs here own = λ n v some at. elim (same-or n id) [
+    | inl same ↦ nearly-here node_at e.root e.id id n (leaf parent xs) v here own same at
+    | inr other ↦ let z = one-other n id other in absurd (omega arith)
+  ]
+
+  -- and those of an internal node and its children
+  pub all-sized : (exempt : Option Exempt) (h : ℕ) (parent : Option ℕ) (child : ℕ) (bs : List ((K × V) × ℕ)) → node_at id ≡ Some (internal parent child bs) → IsSizedNode exempt min max id (internal parent child bs)
+      → (first : Subtree (K × V) h) (row : List ((K × V) × Subtree (K × V) h)) → size_of (internal parent child bs) ≡ length row → ((exempt ≡ None → 0 < length row) → AreSizedRow h node_at exempt first row)
+      → AreSized exempt min max node_at (suc h) (id, first, row)
+  all-sized None h parent child bs here own first row count below =
+      let one = least-one min max in
+      let low = own.0 in
+      let high = own.1 in
+      ((omega arith, omega arith), below (λ no. omega arith))
+  all-sized (Some e) h parent child bs here own first row count below = λ n v some at. elim (same-or n id) [
+    | inl same ↦ nearly-here node_at e.root e.id id n (internal parent child bs) v here own same at
+    | inr other ↦ let z = one-other n id other in below (λ no. absurd (cc)) n v (omega arith) at
+  ]

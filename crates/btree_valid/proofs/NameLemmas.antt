@@ -21,13 +21,13 @@ none-inner (n ∷ ns) some e = cc
 
 module _ {K V : Type 0} (content : Content (Node K V)) (cmp : K → K → Ordering) (h : ℕ) (parent : Option ℕ) (min max : Option K) (v : View (K × V)) where
   -- the part of the child at an index
-  suit-at : (start : ℕ) (ps : List (Subtree (K × V) h)) → AllSuit content cmp h parent min max v start ps → (i : ℕ) → i < length ps
-      → (p : Subtree (K × V) h) × ChildSuits content cmp h parent min max v (start + i) p
+  suit-at : (start : ℕ) (ps : List (Subtree (K × V) h)) → AllSuit content cmp None h parent min max v start ps → (i : ℕ) → i < length ps
+      → (p : Subtree (K × V) h) × ChildSuits content cmp None h parent min max v (start + i) p
   suit-at start [] all i low = absurd (omega arith)
-  suit-at start (p ∷ ps) all zero low = (p, subst (λ j. ChildSuits content cmp h parent min max v j p) (omega arith) all.0)
+  suit-at start (p ∷ ps) all zero low = (p, subst (λ j. ChildSuits content cmp None h parent min max v j p) (omega arith) all.0)
   suit-at start (p ∷ ps) all (suc i) low =
       let s = suit-at (suc start) ps all.1 i (omega arith) in
-      (s.0, subst (λ j. ChildSuits content cmp h parent min max v j s.0) (omega arith) s.1)
+      (s.0, subst (λ j. ChildSuits content cmp None h parent min max v j s.0) (omega arith) s.1)
 
 module _ {K V : Type 0} (content : Content (Node K V)) (cmp : K → K → Ordering) (spot : Spot K) (met : Met) where
   level-once : (origin : Spotted K) (m n : ℕ) → IsFirstLevel content origin m → IsFirstLevel content origin n → m ≡ n
@@ -76,13 +76,13 @@ module _ {K V : Type 0} (content : Content (Node K V)) (cmp : K → K → Orderi
           own-inner origin = all-checked cmp (views content) (IsFirstLevel content origin) (spotted spot) v at own-ok low (λ l. absurd (none-inner (children_of v) inner (let is : l.0 ≡ v = (let e = l.1 in cc) in ap children_of (sym is) ∙ l.2)))
 
           module _ (index : ℕ) (passed : Met) where
-            module _ (w : AreFound content cmp laws spot met v index passed) where
+            module _ (w : AreFound content cmp laws None spot met v index passed) where
               -- the part of a child that was passed
               child-part : (i child : ℕ) → i < index → slice_get (children_of v) i ≡ Some child
                   → (p : Subtree (K × V) w.height) × StandsAt cmp (views content) w.height p (step_down (spotted spot) v i child)
               child-part i child before found =
                   let s = suit-at content cmp w.height (Some spot.id) (option_copied spot.min) (option_copied spot.max) v 0 w.parts w.suit i (let a = w.all in omega arith) in
-                  let c = subst (λ j. ChildSuits content cmp w.height (Some spot.id) (option_copied spot.min) (option_copied spot.max) v j s.0) (let e : 0 + i ≡ i = omega arith in e) s.1 in
+                  let c = subst (λ j. ChildSuits content cmp None w.height (Some spot.id) (option_copied spot.min) (option_copied spot.max) v j s.0) (let e : 0 + i ≡ i = omega arith in e) s.1 in
                   let is : id_of (K × V) w.height s.0 ≡ child = (let e = c.here in cc) in
                   (s.0, record { here = is; suits = c.suits })
 
@@ -102,7 +102,7 @@ module _ {K V : Type 0} (content : Content (Node K V)) (cmp : K → K → Orderi
                     let deep : f.at.depth ≡ spot.level + suc w.height = (let d = f.depth_is in omega arith) in
                     subst (IsFirstLevel content origin) deep (k.next e (0 ∷ leftmost w.height) f.at first)
 
-            earlier : (origin : Spotted K) → Knows content origin spot met → IsDone content cmp laws spot met v index passed → (i : ℕ) → i < index
+            earlier : (origin : Spotted K) → Knows content origin spot met → IsDone content cmp laws None spot met v index passed → (i : ℕ) → i < index
                 → (way : List ℕ) (a : Spotted K) → Leads (views content) (spotted spot) (i ∷ way) a → Verdict cmp (views content) (IsFirstLevel content origin) a (Ok tt)
             earlier origin k (inl start) i before way a l = (let none = start.0 in absurd (omega arith))
             earlier origin k (inr w) i before way a l =
@@ -120,7 +120,7 @@ module _ {K V : Type 0} (content : Content (Node K V)) (cmp : K → K → Orderi
               below-is = λ i. record { depth = level i; id = id i; parent = parent i; min = min i; max = max i }
 
               -- what the walk knows at the child
-              child-knows : (origin : Spotted K) → Knows content origin spot met → IsDone content cmp laws spot met v index passed → Knows content origin below passed
+              child-knows : (origin : Spotted K) → Knows content origin spot met → IsDone content cmp laws None spot met v index passed → Knows content origin below passed
               child-knows origin k (inl start) = record {
                 low = omega arith;
                 first = subst (λ l. IfSome l (IsFirstLevel content origin)) (sym start.1.leaves) k.first;
@@ -137,7 +137,7 @@ module _ {K V : Type 0} (content : Content (Node K V)) (cmp : K → K → Orderi
               }
 
               -- the fault of a child
-              pub names-child : IsDone content cmp laws spot met v index passed → (result : Result Met Fault) → NamesAt content cmp below passed result → (fault : Fault) → result ≡ Err fault
+              pub names-child : IsDone content cmp laws None spot met v index passed → (result : Result Met Fault) → NamesAt content cmp below passed result → (fault : Fault) → result ≡ Err fault
                   → NamesAt content cmp spot met (Err fault)
               names-child done result names fault err origin k =
                   child-first (views content) cmp (IsFirstLevel content origin) (spotted spot) v index child at (sym found) (own-inner origin) (earlier origin k done) fault

@@ -128,7 +128,7 @@ module _ {K V : Type 0} (cmp : K → K → Ordering) (node_at : NodeMap (K × V)
   -- a part stands where a position leads
   pub record StandsAt (h : ℕ) (part : Subtree (K × V) h) (s : Spotted K) : Type 0 where
     pub here : id_of (K × V) h part ≡ s.id
-    pub suits : Suits cmp s.min s.max node_at s.parent h part
+    pub suits : Suits None cmp s.min s.max node_at s.parent h part
 
   part-view : (h : ℕ) (part : Subtree (K × V) h) (s : Spotted K) → StandsAt h part s → node_at s.id ≡ Some (view_at (K × V) h s.parent part)
   part-view h part s p = subst (λ i. node_at i ≡ Some (view_at (K × V) h s.parent part)) p.here (top-view (K × V) node_at h s.parent part p.suits.holds)
@@ -141,12 +141,12 @@ module _ {K V : Type 0} (cmp : K → K → Ordering) (node_at : NodeMap (K × V)
       → (c : Subtree (K × V) h) × StandsAt h c (step_down s node index child)
   child-stands h part s p node index child there found =
       let is = part-is (suc h) part s p node there in
-      let c = child-at cmp node_at h (Some part.0) s.min s.max s.parent part.1 part.2 (all-suit cmp node_at h s.min s.max s.parent part p.suits) index child (sym found ∙ ap (λ u. slice_get (children_of u) index) is) in (
+      let c = child-at cmp None node_at h (Some part.0) s.min s.max s.parent part.1 part.2 (all-suit cmp None node_at h s.min s.max s.parent part p.suits) index child (sym found ∙ ap (λ u. slice_get (children_of u) index) is) in (
         c.part,
         record {
           here = c.here;
-          suits = subst (λ u. Suits cmp (nearest_of (separator_before u index) s.min) (nearest_of (separator_after u index) s.max) node_at (Some s.id) h c.part) (sym is)
-              (subst (λ n. Suits cmp (nearest_of (separator_before (view_at (K × V) (suc h) s.parent part) index) s.min) (nearest_of (separator_after (view_at (K × V) (suc h) s.parent part) index) s.max) node_at (Some n) h c.part) p.here c.suits);
+          suits = subst (λ u. Suits None cmp (nearest_of (separator_before u index) s.min) (nearest_of (separator_after u index) s.max) node_at (Some s.id) h c.part) (sym is)
+              (subst (λ n. Suits None cmp (nearest_of (separator_before (view_at (K × V) (suc h) s.parent part) index) s.min) (nearest_of (separator_after (view_at (K × V) (suc h) s.parent part) index) s.max) node_at (Some n) h c.part) p.here c.suits);
         },
       )
 

@@ -1,7 +1,7 @@
 -- What a reader may rest on where no check at a position fails, whatever the length is and whatever else the store holds.
 use Rattle.btree_valid.proofs.Common.{◌≡◌, ◌∷◌, [], ℕ, inl, inr, List, Option, Some, None, Result, Err, refl, sym, subst, arith, IsTotalOrder, AllByRecursion, ⊤, Ordering, Content, Fault, Node, FirstFailed, views, IsLeafDepth, PassesAt, Spotted, root_spot, numbers_met}
 use Rattle.std.specs.Prelude.{◌↔◌}
-use Rattle.btree_valid.specs.ListedLaws.{leads-depth}
+use Rattle.btree_valid.proofs.ListedLaws.{leads-depth}
 use Rattle.btree_valid.specs.PositionLaws.{met-once-under, no-fault}
 use Rattle.btree_valid.specs.Positions.{IsMetUnder}
 use Rattle.btree_valid.specs.Reading.{IsReadable, PassesPositions}

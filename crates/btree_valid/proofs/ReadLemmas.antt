@@ -1,19 +1,19 @@
 -- Where no check at a position fails, the content is readable (`root-readable`).
 -- The proof builds the tree from its positions: below each of them is a first leaf (`first-leaf`), all leaves have as many
 -- indexes as the first one, and so the children of each node have one height (`build`).
-use Rattle.btree_valid.proofs.Common.{◌≡◌, ◌∙◌, ◌+◌, ◌<◌, ◌≤◌, ◌∷◌, ◌++◌, [], ℕ, zero, suc, inl, inr, List, Option, Some, None, Ok, Err, length, slice_get, refl, sym, ap, subst, arith, IsTotalOrder, AllByRecursion, Ordering, Content, Ascends, Fault, NoNode, WrongParent, Overflowing, Underflowing, EmptyRoot, Unsorted, BelowSeparator, AboveSeparator, TooDeep, NotBalanced, WrongLength, Unreachable, OverLimit, Node, FirstFailed, IsNodeVerdict, node_faults, NodeMap, View, children_of, internal, items_of, leaf, Holds, Subtree, id_of, items_under, times_under, times_listed, numbers_under, pairs_under, views, ascends, rises, numbers-subtree, zero-or, represented-is, represents-of, IsFirstLeaf, IsLeafDepth, IsMetBelow, PassesAt, Spotted, root_spot, step_down, numbers_met, Suits}
+use Rattle.btree_valid.proofs.Common.{◌≡◌, ◌∙◌, ◌+◌, ◌<◌, ◌≤◌, ◌∷◌, ◌++◌, [], ℕ, zero, suc, inl, inr, List, Option, Some, None, Ok, Err, length, slice_get, refl, sym, ap, subst, arith, IsTotalOrder, AllByRecursion, Ordering, Content, Ascends, Fault, NoNode, WrongParent, Overflowing, Underflowing, EmptyRoot, Unsorted, BelowSeparator, AboveSeparator, TooDeep, NotBalanced, WrongLength, Unreachable, OverLimit, Node, FirstFailed, IsNodeVerdict, node_faults, NodeMap, View, children_of, internal, items_of, leaf, Holds, Subtree, id_of, items_under, times_under, times_listed, numbers_under, pairs_under, views, rises, numbers-subtree, zero-or, represented-is, represents-of, IsFirstLeaf, IsLeafDepth, IsMetBelow, PassesAt, Spotted, root_spot, step_down, numbers_met, Suits, PassesNode}
 use Rattle.std.proofs.lemmas.List.{length-map}
 use Rattle.std.specs.FinMap as finite
 use Rattle.std.specs.Prelude.{IsSome}
 use Rattle.btree_item.proofs.PairEdits.{Ascends-none}
-use Rattle.btree_valid.specs.ListedLaws.{numbers-met}
+use Rattle.btree_valid.proofs.ListedLaws.{numbers-met}
 use Rattle.btree_valid.specs.PositionLaws.{ok-or-err}
 use Rattle.btree_valid.specs.Positions.{IsLeafAt, IsVerdictAt, PassesOwn, position_faults}
 use Rattle.btree_valid.specs.Verdicts.{HasNoFaultUnder, items_met}
 use Rattle.btree_valid.specs.Reading.{IsReadable, PassesPositions}
 use Rattle.btree_valid.proofs.EndLemmas.{numbers-more}
 use Rattle.btree_valid.proofs.ExactLemmas.{AllSuit, assemble, row_of}
-use Rattle.btree_valid.proofs.FoundLemmas.{IsChecked, checked}
+use Rattle.btree_valid.proofs.FoundLemmas.{checked}
 use Rattle.btree_valid.proofs.OnceLemmas.{times-once}
 use Rattle.btree_valid.proofs.PartNames.{StandsAt, first-below}
 use Rattle.btree_valid.proofs.SuitsLemmas.{numbers-total}
@@ -142,16 +142,15 @@ module _ {K V : Type 0} (cmp : K → K → Ordering) (laws : IsTotalOrder cmp) (
 
     leaf-part : (s : Spotted K) (o : IsPassed s) (p : Option ℕ) (xs : List (K × V)) → o.node ≡ leaf p xs → HasPart 0 s
     leaf-part s o p xs is =
-        let c = subst (IsChecked cmp laws s.parent s.min s.max) is (checked cmp laws s.parent s.min s.max o.node (Ok tt) refl o.own) in
+        let c = subst (PassesNode cmp None s.id s.parent s.min s.max) is (checked cmp laws s.id s.parent s.min s.max o.node (Ok tt) refl o.own) in
         record {
           part = (s.id, xs);
           stands = record {
             here = refl;
             suits = record {
               holds = o.there ∙ (ap Some is ∙ ap (λ q. Some (leaf q xs)) c.parent_is);
-              filled = c.filled;
-              filled_below = tt;
-              ascends = ascends cmp xs c.rise;
+              sized = (c.sized, tt);
+              ascends = c.ascends;
               between = c.between;
             };
           };
@@ -172,7 +171,7 @@ module _ {K V : Type 0} (cmp : K → K → Ordering) (laws : IsTotalOrder cmp) (
     record HasParts (h : ℕ) (s : Spotted K) (node : View (K × V)) (index count : ℕ) : Type 0 where
       parts : List (Subtree (K × V) h)
       same : length parts ≡ count
-      suit : AllSuit nodes cmp h (Some s.id) s.min s.max node index parts
+      suit : AllSuit nodes cmp None h (Some s.id) s.min s.max node index parts
 
     child-parts : (h : ℕ) (s : Spotted K) (o : IsPassed s) → s.depth + suc h ≡ first → AllPass s → ((t : Spotted K) → t.depth + h ≡ first → AllPass t → HasPart h t)
         → (ids : List ℕ) (index : ℕ) → ((i child : ℕ) → slice_get ids i ≡ Some child → slice_get (children_of o.node) (index + i) ≡ Some child) → HasParts h s o.node index (length ids)
@@ -188,20 +187,20 @@ module _ {K V : Type 0} (cmp : K → K → Ordering) (laws : IsTotalOrder cmp) (
         }
 
     inner-part : (h : ℕ) (s : Spotted K) (o : IsPassed s) (p : Option ℕ) (id : ℕ) (bs : List ((K × V) × ℕ)) → o.node ≡ internal p id bs
-        → (parts : List (Subtree (K × V) h)) → length parts ≡ length (children_of o.node) → AllSuit nodes cmp h (Some s.id) s.min s.max o.node 0 parts → HasPart (suc h) s
+        → (parts : List (Subtree (K × V) h)) → length parts ≡ length (children_of o.node) → AllSuit nodes cmp None h (Some s.id) s.min s.max o.node 0 parts → HasPart (suc h) s
     inner-part h s o p id bs is [] same suit =
         let many : length (children_of o.node) ≡ length (children_of (internal p id bs)) = ap (λ v. length (children_of v)) is in
         absurd (omega arith)
     inner-part h s o p id bs is (q ∷ qs) same suit =
         let many : length (children_of o.node) ≡ length (children_of (internal p id bs)) = ap (λ v. length (children_of v)) is in
         let branches = length-map bs (λ (b : (K × V) × ℕ). b.1) in
-        let c = subst (IsChecked cmp laws s.parent s.min s.max) is (checked cmp laws s.parent s.min s.max o.node (Ok tt) refl o.own) in
-        let all = subst (λ v. AllSuit nodes cmp h (Some s.id) s.min s.max v 0 (q ∷ qs)) is suit in
+        let c = subst (PassesNode cmp None s.id s.parent s.min s.max) is (checked cmp laws s.id s.parent s.min s.max o.node (Ok tt) refl o.own) in
+        let all = subst (λ v. AllSuit nodes cmp None h (Some s.id) s.min s.max v 0 (q ∷ qs)) is suit in
         record {
-          part = (s.id, q, row_of nodes cmp h (Some s.id) bs qs);
+          part = (s.id, q, row_of nodes cmp None h (Some s.id) bs qs);
           stands = record {
             here = refl;
-            suits = assemble nodes cmp laws s.id s.parent s.min s.max h p id bs (o.there ∙ ap Some is) c q qs (omega arith) all;
+            suits = assemble nodes cmp laws None s.id s.parent s.min s.max h p id bs (o.there ∙ ap Some is) c q qs (omega arith) all;
           };
         }
 
@@ -232,8 +231,8 @@ module _ {K V : Type 0} (cmp : K → K → Ordering) (laws : IsTotalOrder cmp) (
     where
       by : (xs : List (K × V)) → items_of o.node ≡ xs → HasItem s.id
       by [] is =
-          let c = checked cmp laws s.parent s.min s.max o.node (Ok tt) refl o.own in
-          let low = c.filled.0 in
+          let c = checked cmp laws s.id s.parent s.min s.max o.node (Ok tt) refl o.own in
+          let low = c.sized.0 in
           let one = least-one s.min s.max in
           let none : length (items_of o.node) ≡ 0 = ap length is in
           absurd (omega arith)
@@ -244,7 +243,7 @@ module _ {K V : Type 0} (cmp : K → K → Ordering) (laws : IsTotalOrder cmp) (
     abbrev IsFirst : ℕ → Type 0
     IsFirst = IsLeafDepth (views nodes) (IsMetBelow (views nodes) (root_spot root))
 
-    module _ (h : ℕ) (low : h < 32) (part : Subtree (K × V) h) (here : id_of (K × V) h part ≡ root) (suits : Suits cmp None None (views nodes) None h part) where
+    module _ (h : ℕ) (low : h < 32) (part : Subtree (K × V) h) (here : id_of (K × V) h part ≡ root) (suits : Suits None cmp None None (views nodes) None h part) where
       part-items : items_met (views nodes) (Some root) ≡ items_under (K × V) h part
       unfolding items_met
       part-items =

@@ -1,8 +1,7 @@
 -- The children of a part that suits, one after another.
-use Rattle.btree_valid.proofs.Common.{◌≡◌, ◌≤◌, ◌∷◌, ◌++◌, [], ◌+◌, ℕ, zero, suc, List, length, length-append, map, drop, Option, Some, None, refl, sym, ap, subst, arith, AllByRecursion, flat_map, IfSome, Ordering, Less, separator_after, separator_before, NodeMap, children_in, children_of, internal, total, Holds, IsFilled, Subtree, count_at, id_of, items_under, later_items, view_at, numbers_under, Rises, ascends, rises, rises-left, AllByRecursion-right, AreBetween, nearest_of, Suits}
+use Rattle.btree_valid.proofs.Common.{◌≡◌, ◌≤◌, ◌∷◌, ◌++◌, [], ◌+◌, ℕ, zero, suc, List, length, length-append, map, drop, Option, Some, None, refl, sym, ap, subst, arith, AllByRecursion, flat_map, IfSome, Ordering, Less, separator_after, separator_before, NodeMap, children_in, children_of, internal, total, Holds, IsFilled, Subtree, count_at, id_of, items_under, later_items, view_at, numbers_under, Rises, ascends, rises, rises-left, AllByRecursion-right, AreBetween, nearest_of, Suits, AreSized, IsFilledBelow, Exempt, IsNearlySized, View, times_under, ◌<◌, ⊤}
 use Rattle.std.specs.Option.{option_map}
 use Rattle.std.specs.Prelude.{slice_get}
-use Rattle.btree_laws.specs.Focus.Subtree.{IsFilledBelow}
 use Rattle.btree_laws.proofs.LookUp.KeyInList.{rises-right}
 use Rattle.btree_laws.proofs.Paths.Frames.{AllByRecursion-left}
 use Rattle.btree_valid.proofs.VerdictLemmas.{least-most}
@@ -48,6 +47,36 @@ module _ {A : Type 0} (h : ℕ) where
         let r = later-numbers t.2 in
         omega arith
 
+-- without an exempt node a child has at least three items
+abbrev pub IsFull : Option Exempt → ℕ → Type 0
+IsFull None count = 3 ≤ count
+IsFull (Some e) count = ⊤
+
+module _ {K V : Type 0} (h : ℕ) (node_at : NodeMap (K × V)) where
+  -- a first child, the children of the branches after it, and all nodes below have their numbers of items
+  abbrev pub AreSizedRow : Option Exempt → (first : Subtree (K × V) h) (row : List ((K × V) × Subtree (K × V) h)) → Type 0
+  AreSizedRow None first row =
+      IsFilled 3 h (count_at (K × V) h first) × IsFilledBelow (K × V) h first
+      × AllByRecursion (λ b. IsFilled 3 h (count_at (K × V) h b.1) × IsFilledBelow (K × V) h b.1) row
+  AreSizedRow (Some e) first row =
+      (n : ℕ) (v : View (K × V)) → 0 < times_under (K × V) h n first + total (λ b. times_under (K × V) h n b.1) row → node_at n ≡ Some v → IsNearlySized e.root e.id n v
+
+  later-sized : (e : Option Exempt) (first : Subtree (K × V) h) (b : (K × V) × Subtree (K × V) h) (row : List ((K × V) × Subtree (K × V) h)) → AreSizedRow e first (b ∷ row) → AreSizedRow e b.1 row
+  later-sized None first b row f = (f.2.0.0, f.2.0.1, f.2.1)
+  later-sized (Some e) first b row f = λ n v some at. f n v (omega arith) at
+
+  first-sized : (e : Option Exempt) (min max : Option K) (first : Subtree (K × V) h) (row : List ((K × V) × Subtree (K × V) h)) → AreSizedRow e first row → AreSized e min max node_at h first
+  first-sized None min max first row f = ((let l = least-most min max in let g = f.0.0 in omega arith, f.0.1), f.1)
+  first-sized (Some e) min max first row f = λ n v some at. f n v (omega arith) at
+
+  first-full : (e : Option Exempt) (first : Subtree (K × V) h) (row : List ((K × V) × Subtree (K × V) h)) → AreSizedRow e first row → IsFull e (count_at (K × V) h first)
+  first-full None first row f = f.0.0
+  first-full (Some e) first row f = tt
+
+  below-sized : (e : Option Exempt) (min max : Option K) (t : Subtree (K × V) (suc h)) → AreSized e min max node_at (suc h) t → AreSizedRow e t.1 t.2
+  below-sized None min max t f = f.1
+  below-sized (Some e) min max t f = λ n v some at. f n v (omega arith) at
+
 module _ {K V : Type 0} (cmp : K → K → Ordering) where
   front-below : (xs : List (K × V)) (x : K × V) (ys : List (K × V)) → Rises cmp (xs ++ x ∷ ys) → AllByRecursion (λ y. cmp y.0 x.0 ≡ Less) xs
   front-below [] x ys up = tt
@@ -61,7 +90,7 @@ module _ {K V : Type 0} (cmp : K → K → Ordering) where
   if-right P None xs ys f = tt
   if-right P (Some k) xs ys f = AllByRecursion-right (P k) xs ys f
 
-  module _ (node_at : NodeMap (K × V)) (h : ℕ) where
+  module _ (exempt : Option Exempt) (node_at : NodeMap (K × V)) (h : ℕ) where
     abbrev pub Row : Type 0
     Row = List ((K × V) × Subtree (K × V) h)
 
@@ -72,8 +101,8 @@ module _ {K V : Type 0} (cmp : K → K → Ordering) where
     pub record ChildAt (min max : Option K) (above parent : Option ℕ) (first : Subtree (K × V) h) (row : Row) (index child : ℕ) : Type 0 where
       pub part : Subtree (K × V) h
       pub here : id_of (K × V) h part ≡ child
-      pub full : 3 ≤ count_at (K × V) h part
-      pub suits : Suits cmp (nearest_of (separator_before (internal above (id_of (K × V) h first) (named row)) index) min)
+      pub full : IsFull exempt (count_at (K × V) h part)
+      pub suits : Suits exempt cmp (nearest_of (separator_before (internal above (id_of (K × V) h first) (named row)) index) min)
           (nearest_of (separator_after (internal above (id_of (K × V) h first) (named row)) index) max) node_at parent h part
       pub next : (f : Subtree (K × V) h → ℕ) → total f (drop index (first ∷ map (λ b. b.1) row)) ≡ f part + total f (drop (suc index) (first ∷ map (λ b. b.1) row))
 
@@ -89,8 +118,7 @@ module _ {K V : Type 0} (cmp : K → K → Ordering) where
         pub rise : Rises cmp (items_under (K × V) h first ++ later_items (K × V) h row)
         pub between : AreBetween cmp min max (items_under (K × V) h first ++ later_items (K × V) h row)
         pub holds : Holds (K × V) node_at h parent first × AllByRecursion (λ b. Holds (K × V) node_at h parent b.1) row
-        pub filled : IsFilled 3 h (count_at (K × V) h first) × IsFilledBelow (K × V) h first
-            × AllByRecursion (λ b. IsFilled 3 h (count_at (K × V) h b.1) × IsFilledBelow (K × V) h b.1) row
+        pub sized : AreSizedRow h node_at exempt first row
 
       later-suit : (min max : Option K) (first : Subtree (K × V) h) (b : (K × V) × Subtree (K × V) h) (row : Row) → AreSuiting min max first (b ∷ row) → AreSuiting (Some b.0.0) max b.1 row
       later-suit min max first b row s =
@@ -103,15 +131,14 @@ module _ {K V : Type 0} (cmp : K → K → Ordering) where
                   (if-right (λ k x. cmp x.0 k ≡ Less) max (items_under (K × V) h first) (later_items (K × V) h (b ∷ row)) s.between.below);
             };
             holds = (s.holds.1.0, s.holds.1.1);
-            filled = (s.filled.2.0.0, s.filled.2.0.1, s.filled.2.1);
+            sized = later-sized h node_at exempt first b row s.sized;
           }
 
       first-suits : (min max : Option K) (first : Subtree (K × V) h) (row : Row) (above : Option ℕ) → AreSuiting min max first row
-          → Suits cmp min (nearest_of (separator_after (internal above (id_of (K × V) h first) (named row)) 0) max) node_at parent h first
+          → Suits exempt cmp min (nearest_of (separator_after (internal above (id_of (K × V) h first) (named row)) 0) max) node_at parent h first
       first-suits min max first row above s = record {
         holds = s.holds.0;
-        filled = (let l = least-most min (nearest_of (separator_after (internal above (id_of (K × V) h first) (named row)) 0) max) in let f = s.filled.0.0 in omega arith, s.filled.0.1);
-        filled_below = s.filled.1;
+        sized = first-sized h node_at exempt min (nearest_of (separator_after (internal above (id_of (K × V) h first) (named row)) 0) max) first row s.sized;
         ascends = ascends cmp (items_under (K × V) h first) (rises-left cmp (items_under (K × V) h first) (later_items (K × V) h row) s.rise);
         between = record {
           above = if-left (λ k x. cmp k x.0 ≡ Less) min (items_under (K × V) h first) (later_items (K × V) h row) s.between.above;
@@ -129,7 +156,7 @@ module _ {K V : Type 0} (cmp : K → K → Ordering) where
       child-at min max above first row s zero child e = record {
         part = first;
         here = (let is : child ≡ id_of (K × V) h first = cc in sym is);
-        full = s.filled.0.0;
+        full = first-full h node_at exempt first row s.sized;
         suits = first-suits min max first row above s;
         next = λ f. refl;
       }
@@ -144,15 +171,15 @@ module _ {K V : Type 0} (cmp : K → K → Ordering) where
             part = c.part;
             here = c.here;
             full = c.full;
-            suits = subst (λ near. Suits cmp near (nearest_of after max) node_at parent h c.part) (near-same row k child e (Some b.0.0) min) c.suits;
+            suits = subst (λ near. Suits exempt cmp near (nearest_of after max) node_at parent h c.part) (near-same row k child e (Some b.0.0) min) c.suits;
             next = c.next;
           }
 
     -- the children of a part that suits
-    pub all-suit : (min max : Option K) (parent : Option ℕ) (t : Subtree (K × V) (suc h)) → Suits cmp min max node_at parent (suc h) t → AreSuiting (Some t.0) min max t.1 t.2
+    pub all-suit : (min max : Option K) (parent : Option ℕ) (t : Subtree (K × V) (suc h)) → Suits exempt cmp min max node_at parent (suc h) t → AreSuiting (Some t.0) min max t.1 t.2
     all-suit min max parent t s = record {
       rise = rises cmp (items_under (K × V) (suc h) t) s.ascends;
       between = s.between;
       holds = (s.holds.1, s.holds.2);
-      filled = s.filled_below;
+      sized = below-sized h node_at exempt min max t s.sized;
     }

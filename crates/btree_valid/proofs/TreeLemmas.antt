@@ -1,5 +1,5 @@
 -- A tree in which the walk of the validator found no fault is well formed.
-use Rattle.btree_valid.proofs.Common.{◌≡◌, ◌≤◌, ◌<◌, [], ◌∙◌, ◌+◌, ℕ, inl, inr, length, Option, Some, None, Result, Ok, Err, option_copied, option_map, refl, sym, ap, subst, arith, nat_tests, IsTotalOrder, IsFalse, Ordering, Fault, view_of, Node, Content, is_judged_as_root, NodeMap, View, most_of, size_of, Holds, Subtree, count_at, id_of, items_under, times_under, view_at, times_listed, Represents, numbers_under, represented, pairs_under, views, IsNearlySized, least_allowed, times_used, rises, one-other, top-view, numbers-subtree, same-or, used-one, represented-is, view-parent, view-size, represents-of, AreBetween, FindsAt, Suits, least_between, Met, Spot}
+use Rattle.btree_valid.proofs.Common.{◌≡◌, ◌≤◌, ◌<◌, [], ◌∙◌, ◌+◌, ℕ, inl, inr, length, Option, Some, None, Result, Ok, Err, option_copied, option_map, refl, sym, ap, subst, arith, nat_tests, IsTotalOrder, IsFalse, Ordering, Fault, view_of, Node, Content, is_judged_as_root, NodeMap, View, most_of, size_of, Holds, Subtree, count_at, id_of, items_under, times_under, view_at, times_listed, Represents, numbers_under, represented, pairs_under, views, IsNearlySized, least_allowed, times_used, rises, one-other, top-view, numbers-subtree, same-or, used-one, represented-is, view-parent, view-size, represents-of, AreBetween, FindsAt, Suits, Exempt, Ascends, least_between, Met, Spot}
 use Rattle.std.proofs.Common.{◌≢◌}
 use Rattle.std.specs.FinMap as finite
 use Rattle.btree_item.proofs.PairEdits.{Ascends-none}
@@ -21,15 +21,34 @@ use Rattle.btree_valid.specs.Spots.{FindsTree}
 use Rattle.btree_valid.proofs.OnceLemmas.{all-used, few, listed-low}
 
 -- a part that suits at a spot, with the parent and the separators there by other names
-pub retarget : {K V : Type 0} (cmp : K → K → Ordering) (node_at : NodeMap (K × V)) (h : ℕ) (t : Subtree (K × V) h) (min max a b : Option K) (parent p : Option ℕ) → min ≡ a → max ≡ b → parent ≡ p → Suits cmp min max node_at parent h t → Suits cmp a b node_at p h t
-retarget cmp node_at h t min max a b parent p near far up s =
-    subst (λ z. Suits cmp a b node_at z h t) up (subst (λ z. Suits cmp a z node_at parent h t) far (subst (λ z. Suits cmp z max node_at parent h t) near s))
+pub retarget : {K V : Type 0} (cmp : K → K → Ordering) (exempt : Option Exempt) (node_at : NodeMap (K × V)) (h : ℕ) (t : Subtree (K × V) h) (min max a b : Option K) (parent p : Option ℕ) → min ≡ a → max ≡ b → parent ≡ p → Suits exempt cmp min max node_at parent h t → Suits exempt cmp a b node_at p h t
+retarget cmp exempt node_at h t min max a b parent p near far up s =
+    subst (λ z. Suits exempt cmp a b node_at z h t) up (subst (λ z. Suits exempt cmp a z node_at parent h t) far (subst (λ z. Suits exempt cmp z max node_at parent h t) near s))
 
 least-nearly : (root n : ℕ) → least_allowed root root n ≤ 3
 least-nearly root n = elim (same-or n root) [ inl same ↦ grind (arith, nat_tests) | inr other ↦ grind (arith, nat_tests) ]
 
 least-there : (root n : ℕ) → n ≡ root → least_allowed root root n ≡ 0
 least-there root n same = grind (arith, nat_tests)
+
+module _ {K V : Type 0} (content : Content (Node K V)) (cmp : K → K → Ordering) (laws : IsTotalOrder cmp) (root exempt h : ℕ) (t : Subtree (K × V) h) (here : id_of (K × V) h t ≡ root) (holds : Holds (K × V) (views content) h None t)
+    (up : Ascends cmp (items_under (K × V) h t)) (sized : (n : ℕ) (v : View (K × V)) → 0 < times_under (K × V) h n t → views content n ≡ Some v → IsNearlySized root exempt n v) where
+  few-listed : (n : ℕ) → times_listed n (numbers_under (views content) h (id_of (K × V) h t)) ≤ times_used (finite.get content n)
+  few-listed n =
+      let q = numbers-subtree (K × V) (views content) n h None t holds in
+      let l = few cmp laws (views content) root exempt h t here holds (rises cmp (items_under (K × V) h t) up) sized n in
+      let z = used-mapped view_of (finite.get content n) in
+      omega arith
+
+  -- a tree has at most as many numbers as the store
+  pub listed-few : length (numbers_under (views content) h (id_of (K × V) h t)) ≤ finite.len content
+  listed-few = listed-low (numbers_under (views content) h (id_of (K × V) h t)) content few-listed
+
+  -- and if it has as many, each used number once
+  pub used-once : finite.len content ≡ length (numbers_under (views content) h (id_of (K × V) h t)) → (n : ℕ) → times_under (K × V) h n t ≡ times_used (views content n)
+  used-once count n =
+      sym (numbers-subtree (K × V) (views content) n h None t holds)
+      ∙ (all-used (numbers_under (views content) h (id_of (K × V) h t)) content few-listed count n ∙ sym (used-mapped view_of (finite.get content n)))
 
 module _ {K V : Type 0} (content : Content (Node K V)) (cmp : K → K → Ordering) (len : ℕ) where
   -- nothing came, and nothing was there
@@ -44,19 +63,19 @@ module _ {K V : Type 0} (content : Content (Node K V)) (cmp : K → K → Orderi
         counted = no_item;
       }
 
-  module _ (laws : IsTotalOrder cmp) (root : ℕ) (h : ℕ) (t : Subtree (K × V) h) (here : id_of (K × V) h t ≡ root) (s : Suits cmp None None (views content) None h t) where
+  module _ (laws : IsTotalOrder cmp) (root : ℕ) (h : ℕ) (t : Subtree (K × V) h) (here : id_of (K × V) h t ≡ root) (s : Suits None cmp None None (views content) None h t) where
     at-top : (n : ℕ) (v : View (K × V)) → n ≡ root → views content n ≡ Some v → (1 ≤ size_of v) × (size_of v ≤ most_of v)
     at-top n v same at =
         let top : views content n ≡ Some (view_at (K × V) h None t) = subst (λ i. views content i ≡ Some (view_at (K × V) h None t)) (here ∙ sym same) (top-view (K × V) (views content) h None t s.holds) in
         let is : v ≡ view_at (K × V) h None t = (let e : Some v ≡ Some (view_at (K × V) h None t) = sym at ∙ top in cc) in
         let size : size_of v ≡ count_at (K × V) h t = ap size_of is ∙ view-size (K × V) h None t in
         let most : most_of v ≡ most_at h = ap most_of is ∙ view-most (K × V) h None t in
-        let low = s.filled.0 in
-        let high = s.filled.1 in
+        let low = s.sized.0.0 in
+        let high = s.sized.0.1 in
         (omega arith, omega arith)
 
     below-top : (n : ℕ) (v : View (K × V)) → n ≢ root → 0 < times_under (K × V) h n t → views content n ≡ Some v → (3 ≤ size_of v) × (size_of v ≤ most_of v)
-    below-top n v other some at = below-middle (K × V) (views content) h None t s.holds s.filled_below n (one-other n (id_of (K × V) h t) (λ e. other (e ∙ here))) some v at
+    below-top n v other some at = below-middle (K × V) (views content) h None t s.holds s.sized.1 n (one-other n (id_of (K × V) h t) (λ e. other (e ∙ here))) some v at
 
     nearly : (n : ℕ) (v : View (K × V)) → 0 < times_under (K × V) h n t → views content n ≡ Some v → IsNearlySized root root n v
     nearly n v some at = elim (same-or n root) [
@@ -66,23 +85,11 @@ module _ {K V : Type 0} (content : Content (Node K V)) (cmp : K → K → Orderi
 
     -- its numbers are at most as many as those of the store
     pub numbers-low : length (numbers_under (views content) h (id_of (K × V) h t)) ≤ finite.len content
-    numbers-low =
-        let low = few cmp laws (views content) root root h t here s.holds (rises cmp (items_under (K × V) h t) s.ascends) nearly in
-        listed-low (numbers_under (views content) h (id_of (K × V) h t)) content (λ m.
-        let q = numbers-subtree (K × V) (views content) m h None t s.holds in
-        let l = low m in
-        let z = used-mapped view_of (finite.get content m) in
-        omega arith)
+    numbers-low = listed-few content cmp laws root root h t here s.holds s.ascends nearly
 
     module _ (count : finite.len content ≡ length (numbers_under (views content) h (id_of (K × V) h t))) where
-      listed : (n : ℕ) → times_listed n (numbers_under (views content) h (id_of (K × V) h t)) ≡ times_under (K × V) h n t
-      listed n = numbers-subtree (K × V) (views content) n h None t s.holds
-
-      each-once : (n : ℕ) → times_listed n (numbers_under (views content) h (id_of (K × V) h t)) ≡ times_used (views content n)
-      each-once n =
-          let low = few cmp laws (views content) root root h t here s.holds (rises cmp (items_under (K × V) h t) s.ascends) nearly in
-          let all = all-used (numbers_under (views content) h (id_of (K × V) h t)) content (λ m. let q = listed m in let l = low m in let z = used-mapped view_of (finite.get content m) in omega arith) count n in
-          all ∙ sym (used-mapped view_of (finite.get content n))
+      once : (n : ℕ) → times_under (K × V) h n t ≡ times_used (views content n)
+      once n = used-once content cmp laws root root h t here s.holds s.ascends nearly count n
 
       rooted : IsRooted (IsSized root) (views content) root (items_under (K × V) h t)
       rooted = record {
@@ -91,8 +98,7 @@ module _ {K V : Type 0} (content : Content (Node K V)) (cmp : K → K → Orderi
         sized = λ n v at. elim (same-or n root) [
           | inl same ↦ let z = at-top n v same at in let z0 = z.0 in let z1 = z.1 in let l = least-root root n same in (omega arith, omega arith)
           | inr other ↦
-              let e = each-once n in
-              let q = listed n in
+              let e = once n in
               let u = used-one (views content n) v at in
               let z = below-top n v other (omega arith) at in
               let z0 = z.0 in
@@ -100,18 +106,18 @@ module _ {K V : Type 0} (content : Content (Node K V)) (cmp : K → K → Orderi
               let l = least-low root n in
               (omega arith, omega arith)
         ];
-        once = λ n. subst (λ i. times_listed n (numbers_under (views content) h i) ≡ times_used (views content n)) here (each-once n);
+        once = λ n. subst (λ i. times_listed n (numbers_under (views content) h i) ≡ times_used (views content n)) here (numbers-subtree (K × V) (views content) n h None t s.holds ∙ once n);
       }
 
   -- all that came is one tree
   pub all-found : IsTotalOrder cmp → (root : ℕ) (nodes : ℕ) → nodes ≡ finite.len content → (met : Met) → met.items ≡ Some len → met.nodes ≡ Some nodes
       → (spot : Spot K) → spot.id ≡ root → spot.parent ≡ None → option_copied spot.min ≡ None → option_copied spot.max ≡ None
-      → (answer : Result Met Fault) → FindsAt content cmp spot met answer → FindsTree content cmp (Some root) len answer
+      → (answer : Result Met Fault) → FindsAt content cmp None spot met answer → FindsTree content cmp (Some root) len answer
   all-found laws root nodes count met items left spot id parent min max (Err fault) finds = tt
   all-found laws root nodes count met items left spot id parent min max (Ok after) finds = λ none gone.
       let f = finds.1 in
       let h : ℕ = finds.0 in
-      let suits : Suits cmp None None (views content) None h f.part = retarget cmp (views content) h f.part (option_copied spot.min) (option_copied spot.max) None None spot.parent None min max parent f.begins.suits in
+      let suits : Suits None cmp None None (views content) None h f.part = retarget cmp None (views content) h f.part (option_copied spot.min) (option_copied spot.max) None None spot.parent None min max parent f.begins.suits in
       let here : id_of (K × V) h f.part ≡ root = f.begins.here ∙ id in
       let all_items : len ≡ length (items_under (K × V) h f.part) = (let e : Some len ≡ Some (length (items_under (K × V) h f.part) + 0) = sym items ∙ f.items 0 none in let g : len ≡ length (items_under (K × V) h f.part) + 0 = cc in omega arith) in
       let all_nodes : nodes ≡ length (numbers_under (views content) h (id_of (K × V) h f.part)) = (let e : Some nodes ≡ Some (length (numbers_under (views content) h (id_of (K × V) h f.part)) + 0) = sym left ∙ f.nodes 0 gone in let g : nodes ≡ length (numbers_under (views content) h (id_of (K × V) h f.part)) + 0 = cc in omega arith) in
@@ -150,12 +156,12 @@ module _ {K V : Type 0} (cmp : K → K → Ordering) (tree : TreeState K V) (id 
 
   -- the arguments suit a node under which the walk found no fault
   pub node-suits : (content : Content (Node K V)) → tree.nodes ≡ content → IsBTree cmp tree → (met : Met) (spot : Spot K) → spot.id ≡ id → spot.parent ≡ parent → option_copied spot.min ≡ min → option_copied spot.max ≡ max
-      → (after : Met) → FindsAt content cmp spot met (Ok after) → SuitsNode cmp tree id parent min max
+      → (after : Met) → FindsAt content cmp None spot met (Ok after) → SuitsNode cmp tree id parent min max
   node-suits content same w met spot is up near far after finds =
-      let found = subst (λ nodes. FindsAt nodes cmp spot met (Ok after)) (sym same) finds in
+      let found = subst (λ nodes. FindsAt nodes cmp None spot met (Ok after)) (sym same) finds in
       let h : ℕ = found.0 in
       let f = found.1 in
-      let suits : Suits cmp min max (node_map tree) parent h f.part = retarget cmp (node_map tree) h f.part (option_copied spot.min) (option_copied spot.max) min max spot.parent parent near far up f.begins.suits in
+      let suits : Suits None cmp min max (node_map tree) parent h f.part = retarget cmp None (node_map tree) h f.part (option_copied spot.min) (option_copied spot.max) min max spot.parent parent near far up f.begins.suits in
       let here : id_of (K × V) h f.part ≡ id = f.begins.here ∙ is in
       let low = part-low tree.root w h parent f.part here suits.holds in
       let list : represented (node_map tree) (finite.len tree.nodes) id ≡ items_under (K × V) h f.part =
@@ -166,6 +172,6 @@ module _ {K V : Type 0} (cmp : K → K → Ordering) (tree : TreeState K V) (id 
         node = view_at (K × V) h parent f.part;
         at = subst (λ i. node_map tree i ≡ Some (view_at (K × V) h parent f.part)) here (top-view (K × V) (node_map tree) h parent f.part suits.holds);
         parent_is = view-parent (K × V) h parent f.part;
-        filled = λ no. let three = three-items min max (count_at (K × V) h f.part) suits.filled.0 no in omega arith;
+        filled = λ no. let three = three-items min max (count_at (K × V) h f.part) suits.sized.0.0 no in omega arith;
         between = subst (AreBetween cmp min max) (sym list) suits.between;
       }

@@ -1,5 +1,5 @@
 -- A node of a well formed tree passes each check that the arguments allow.
-use Rattle.btree_valid.proofs.Common.{◌≡◌, ◌≤◌, ◌∷◌, [], ◌∙◌, ℕ, zero, suc, inl, inr, List, length, map, Option, Some, None, refl, subst, arith, AllByRecursion, keys_of, ⊤, IfSome, IsFalse, Ordering, Less, Fault, NoNode, WrongParent, Overflowing, Underflowing, EmptyRoot, Unsorted, BelowSeparator, AboveSeparator, TooDeep, NotBalanced, WrongLength, Unreachable, OverLimit, FirstFailed, IsNodeVerdict, PassesCheck, is_judged_as_root, node_faults, NodeMap, View, items_of, most_of, parent_of, Subtree, count_at, id_of, items_under, later_items, view_at, ascends, rises, AllByRecursion-right, view-parent, view-size, Allows, Suits, least_between}
+use Rattle.btree_valid.proofs.Common.{◌≡◌, ◌≤◌, ◌∷◌, [], ◌∙◌, ℕ, zero, suc, inl, inr, List, map, Option, Some, None, refl, subst, arith, AllByRecursion, keys_of, ⊤, IfSome, IsFalse, Ordering, Less, Fault, NoNode, WrongParent, Overflowing, Underflowing, EmptyRoot, Unsorted, BelowSeparator, AboveSeparator, TooDeep, NotBalanced, WrongLength, Unreachable, OverLimit, FirstFailed, IsNodeVerdict, PassesCheck, is_judged_as_root, node_faults, NodeMap, View, items_of, most_of, parent_of, Subtree, count_at, id_of, items_under, later_items, view_at, ascends, rises, AllByRecursion-right, view-parent, view-size, Allows, AreSized, IsSizedNode, PassesNode, Exempt, Suits, least_between, times_under, one-self, top-view, ◌<◌}
 use Rattle.std.proofs.lemmas.Map.Entries.{length-keys_of}
 use Rattle.std.specs.Prelude.{Result, Ok, Err, slice_get}
 use Rattle.btree_view.specs.Checks.{BeginsAbove, EndsBelow}
@@ -48,54 +48,89 @@ module _ {K : Type 0} (V : Type 0) (cmp : K → K → Ordering) where
   own-all P zero parent t all = all
   own-all P (suc h) parent t all = branch-all P h t.2 (AllByRecursion-right P (items_under (K × V) h t.1) (later_items (K × V) h t.2) all)
 
+  if-own : (P : K → K × V → Type 0) (m : Option K) (h : ℕ) (parent : Option ℕ) (t : Subtree (K × V) h) → IfSome m (λ k. AllByRecursion (P k) (items_under (K × V) h t)) → IfSome m (λ k. AllByRecursion (P k) (items_of (view_at (K × V) h parent t)))
+  if-own P None h parent t f = tt
+  if-own P (Some k) h parent t f = own-all (P k) h parent t f
+
   key-at : (P : K → Type 0) (xs : List (K × V)) (i : ℕ) → AllByRecursion (λ x. P x.0) xs → IfSome (slice_get (keys_of xs) i) P
   key-at P [] i all = tt
   key-at P (x ∷ xs) zero all = all.0
   key-at P (x ∷ xs) (suc i) all = key-at P xs i all.1
 
+module _ (A : Type 0) where
+  -- the root of a part is one of its nodes
+  root-listed : (h : ℕ) (t : Subtree A h) → 0 < times_under A h (id_of A h t) t
+  root-listed zero t = let s = one-self t.0 in omega arith
+  root-listed (suc h) t = let s = one-self t.0 in omega arith
+
 module _ {K V : Type 0} (cmp : K → K → Ordering) where
-  module _ (min max : Option K) (node_at : NodeMap (K × V)) (parent : Option ℕ) (h : ℕ) (t : Subtree (K × V) h) (s : Suits cmp min max node_at parent h t) where
+  -- keys that are all on one side of a separator
+  key-begins : (m : Option K) (xs : List (K × V)) → IfSome m (λ k. AllByRecursion (λ x. cmp k x.0 ≡ Less) xs) → BeginsAbove cmp m (keys_of xs)
+  key-begins None xs f = tt
+  key-begins (Some k) xs f = key-at V cmp (λ y. cmp k y ≡ Less) xs 0 f
+
+  pub key-ends : (m : Option K) (xs : List (K × V)) → IfSome m (λ k. AllByRecursion (λ x. cmp x.0 k ≡ Less) xs) → EndsBelow cmp m (keys_of xs)
+  key-ends None xs f = tt
+  key-ends (Some k) xs f = key-at V cmp (λ y. cmp y k ≡ Less) xs _ f
+
+  -- a node that passes its checks
+  module _ (min max : Option K) (parent : Option ℕ) (id : ℕ) (v : View (K × V)) (p : PassesNode cmp None id parent min max v) where
+    node-passes : (fault : Fault) → PassesCheck cmp parent min max (parent_of v) (most_of v) (keys_of (items_of v)) fault
+    node-passes WrongParent = p.parent_is
+    node-passes Overflowing = let c = length-keys_of (items_of v) in let f = p.sized.1 in omega arith
+    node-passes Underflowing = λ no. let c = length-keys_of (items_of v) in let l = least-three min max no in let f = p.sized.0 in omega arith
+    node-passes EmptyRoot = λ yes. let c = length-keys_of (items_of v) in let l = least-one min max in let f = p.sized.0 in omega arith
+    node-passes Unsorted = p.ascends
+    node-passes BelowSeparator = key-begins min (items_of v) p.between.above
+    node-passes AboveSeparator = key-ends max (items_of v) p.between.below
+    node-passes NoNode = tt
+    node-passes TooDeep = tt
+    node-passes NotBalanced = tt
+    node-passes WrongLength = tt
+    node-passes Unreachable = tt
+    node-passes OverLimit = tt
+
+    -- has the answer Ok
+    pub node-ok : (answer : Result ⊤ Fault) → IsNodeVerdict cmp parent min max v answer → answer ≡ Ok tt
+    node-ok answer verdict = all-pass (PassesCheck cmp parent min max (parent_of v) (most_of v) (keys_of (items_of v))) node-passes node_faults answer verdict
+
+  -- the root of a part that suits passes its checks
+  pub own-node : (exempt : Option Exempt) (min max : Option K) (node_at : NodeMap (K × V)) (parent : Option ℕ) (h : ℕ) (t : Subtree (K × V) h) → Suits exempt cmp min max node_at parent h t
+      → PassesNode cmp exempt (id_of (K × V) h t) parent min max (view_at (K × V) h parent t)
+  own-node exempt min max node_at parent h t s = record {
+    parent_is = view-parent (K × V) h parent t;
+    sized = by exempt s.sized;
+    ascends = ascends cmp (items_of (view_at (K × V) h parent t)) (items-rise V cmp h parent t (rises cmp (items_under (K × V) h t) s.ascends));
+    between = record {
+      above = if-own V cmp (λ k x. cmp k x.0 ≡ Less) min h parent t s.between.above;
+      below = if-own V cmp (λ k x. cmp x.0 k ≡ Less) max h parent t s.between.below;
+    };
+  }
+    where
+      by : (e : Option Exempt) → AreSized e min max node_at h t → IsSizedNode e min max (id_of (K × V) h t) (view_at (K × V) h parent t)
+      by None f =
+          let c = view-size (K × V) h parent t in
+          let m = view-most (K × V) h parent t in
+          let low = f.0.0 in
+          let high = f.0.1 in
+          (omega arith, omega arith)
+      by (Some e) f = f (id_of (K × V) h t) (view_at (K × V) h parent t) (root-listed (K × V) h t) (top-view (K × V) node_at h parent t s.holds)
+
+  module _ (min max : Option K) (node_at : NodeMap (K × V)) (parent : Option ℕ) (h : ℕ) (t : Subtree (K × V) h) (s : Suits None cmp min max node_at parent h t) where
     abbrev own : View (K × V)
     own = view_at (K × V) h parent t
 
-    count : length (keys_of (items_of own)) ≡ count_at (K × V) h t
-    count = length-keys_of (items_of own) ∙ view-size (K × V) h parent t
-
-    begins : (m : Option K) → IfSome m (λ k. AllByRecursion (λ x. cmp k x.0 ≡ Less) (items_under (K × V) h t)) → BeginsAbove cmp m (keys_of (items_of own))
-    begins None f = tt
-    begins (Some k) f = key-at V cmp (λ y. cmp k y ≡ Less) (items_of own) 0 (own-all V cmp (λ x. cmp k x.0 ≡ Less) h parent t f)
-
-    ends : (m : Option K) → IfSome m (λ k. AllByRecursion (λ x. cmp x.0 k ≡ Less) (items_under (K × V) h t)) → EndsBelow cmp m (keys_of (items_of own))
-    ends None f = tt
-    ends (Some k) f = key-at V cmp (λ y. cmp y k ≡ Less) (items_of own) _ (own-all V cmp (λ x. cmp x.0 k ≡ Less) h parent t f)
-
     pub passes : (fault : Fault) → PassesCheck cmp parent min max (parent_of own) (most_of own) (keys_of (items_of own)) fault
-    passes WrongParent = view-parent (K × V) h parent t
-    passes Overflowing = let c = count in let m = view-most (K × V) h parent t in let f = s.filled.1 in omega arith
-    passes Underflowing = λ no. let c = count in let l = least-three min max no in let f = s.filled.0 in omega arith
-    passes EmptyRoot = λ yes. let c = count in let l = least-one min max in let f = s.filled.0 in omega arith
-    passes Unsorted = ascends cmp (items_of own) (items-rise V cmp h parent t (rises cmp (items_under (K × V) h t) s.ascends))
-    passes BelowSeparator = begins min s.between.above
-    passes AboveSeparator = ends max s.between.below
-    passes NoNode = tt
-    passes TooDeep = tt
-    passes NotBalanced = tt
-    passes WrongLength = tt
-    passes Unreachable = tt
-    passes OverLimit = tt
-
-    -- so the answer for the root of a part that suits is Ok
-    pub own-passes : (v : View (K × V)) → v ≡ own → (answer : Result ⊤ Fault) → IsNodeVerdict cmp parent min max v answer → answer ≡ Ok tt
-    own-passes v is answer verdict = all-pass (PassesCheck cmp parent min max (parent_of own) (most_of own) (keys_of (items_of own))) passes node_faults answer (subst (λ u. IsNodeVerdict cmp parent min max u answer) is verdict)
+    passes = node-passes min max parent (id_of (K × V) h t) own (own-node None min max node_at parent h t s)
 
     module _ (asked : Option ℕ) (low high : Option K) where
       allowed : (fault : Fault) → Allows cmp parent (count_at (K × V) h t) (items_under (K × V) h t) asked low high fault → PassesCheck cmp asked low high (parent_of own) (most_of own) (keys_of (items_of own)) fault
       allowed WrongParent a = view-parent (K × V) h parent t ∙ a
-      allowed Underflowing a = λ no. let c = count in let l = a no in omega arith
-      allowed BelowSeparator a = begins low a.above
-      allowed AboveSeparator a = ends high a.below
+      allowed Underflowing a = λ no. let c = length-keys_of (items_of own) ∙ view-size (K × V) h parent t in let l = a no in omega arith
+      allowed BelowSeparator a = key-begins low (items_of own) (if-own V cmp (λ k x. cmp k x.0 ≡ Less) low h parent t a.above)
+      allowed AboveSeparator a = key-ends high (items_of own) (if-own V cmp (λ k x. cmp x.0 k ≡ Less) high h parent t a.below)
       allowed Overflowing a = passes Overflowing
-      allowed EmptyRoot a = λ yes. let c = count in let l = least-one min max in let f = s.filled.0 in omega arith
+      allowed EmptyRoot a = λ yes. let c = length-keys_of (items_of own) ∙ view-size (K × V) h parent t in let l = least-one min max in let f = s.sized.0.0 in omega arith
       allowed Unsorted a = passes Unsorted
       allowed NoNode a = tt
       allowed TooDeep a = tt

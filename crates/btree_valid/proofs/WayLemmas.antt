@@ -2,7 +2,7 @@
 use Rattle.btree_valid.proofs.Common.{◌≡◌, ◌∙◌, ◌+◌, ◌<◌, ◌≤◌, ◌∷◌, [], ℕ, zero, suc, inl, inr, List, Some, length, slice_get, sym, ap, subst, arith, flat_map, NodeMap, children_in, children_of, times_listed, numbers_under, one-self, Leads, Spotted, step_down}
 use Rattle.btree_laws.specs.Lists.{one}
 use Rattle.btree_laws.proofs.Trees.Numbers.{listed-append}
-use Rattle.btree_valid.specs.ListedLaws.{met-listed}
+use Rattle.btree_valid.proofs.ListedLaws.{met-listed}
 use Rattle.btree_valid.specs.PositionLaws.{one-first}
 use Rattle.btree_valid.specs.Positions.{Precedes}
 

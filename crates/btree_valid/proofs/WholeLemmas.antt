@@ -31,14 +31,13 @@ module _ {K V : Type 0} (content : Content (Node K V)) (cmp : K → K → Orderi
   module _ (root : ℕ) (low : len < 2 ^ 64) where
     -- the whole tree is as it should be at the spot of its root
     root-begins : (xs : List (K × V)) (r : IsRooted (IsSized root) (views content) root xs) → Ascends cmp xs → length xs < 2 ^ 64 → (t : HasSubtree (K × V) (views content) root xs r.height)
-        → (spot : Spot K) → spot.level ≡ 0 → spot.id ≡ root → spot.parent ≡ None → option_copied spot.min ≡ None → option_copied spot.max ≡ None → BeginsAt content cmp spot r.height t.subtree
+        → (spot : Spot K) → spot.level ≡ 0 → spot.id ≡ root → spot.parent ≡ None → option_copied spot.min ≡ None → option_copied spot.max ≡ None → BeginsAt content cmp None spot r.height t.subtree
     root-begins xs r up few t spot level id parent min max = record {
       here = t.at_root ∙ sym id;
       low = let h = height-low (K × V) (views content) root xs r few in omega arith;
       suits = rw (parent, min, max) (record {
         holds = t.holds;
-        filled = t.sized;
-        filled_below = t.below;
+        sized = (t.sized, t.below);
         ascends = subst (Ascends cmp) (sym t.represents) up;
         between = record { above = tt; below = tt };
       });
@@ -46,7 +45,7 @@ module _ {K V : Type 0} (content : Content (Node K V)) (cmp : K → K → Orderi
 
     pub all-comes : (nodes : ℕ) → nodes ≡ finite.len content → (met : Met) → met.leaf_level ≡ None → met.items ≡ Some len → met.nodes ≡ Some nodes
         → (spot : Spot K) → spot.level ≡ 0 → spot.id ≡ root → spot.parent ≡ None → option_copied spot.min ≡ None → option_copied spot.max ≡ None
-        → (answer : Result Met Fault) → MeetsAt content cmp spot met answer → MeetsTree content cmp (Some root) len answer
+        → (answer : Result Met Fault) → MeetsAt content cmp None spot met answer → MeetsTree content cmp (Some root) len answer
     all-comes nodes count met leaves items left spot level id parent min max answer meets w =
         let t = rooted-subtree (K × V) (views content) root _ w.formed in
         let few : length (items_under (K × V) w.formed.height t.subtree) ≡ len = ap length t.represents ∙ sym w.counted in
@@ -67,7 +66,7 @@ record IsPartAt {K V : Type 0} (content : Content (Node K V)) (cmp : K → K →
   low : height < 32
   depth : levels_below (views content) (finite.len content) id ≡ height
   list : represented (views content) (finite.len content) id ≡ items_under (K × V) height part
-  suits : Suits cmp min max (views content) parent height part
+  suits : Suits None cmp min max (views content) parent height part
 
 module _ {K V : Type 0} (cmp : K → K → Ordering) (tree : TreeState K V) (id : ℕ) (parent : Option ℕ) (min max : Option K) where
   least-counted : (count low : ℕ) → 1 ≤ low → low ≤ count → (IsFalse (is_judged_as_root min max) → 3 ≤ count) → least_between min max ≤ count
@@ -110,8 +109,7 @@ module _ {K V : Type 0} (cmp : K → K → Ordering) (tree : TreeState K V) (id 
             list = list;
             suits = record {
               holds = subst (λ p. Holds (K × V) (node_map tree) h p t) up whole.inner;
-              filled = (least-counted (count_at (K × V) h t) (least_at c) (low-enough (K × V) h c) sized.0 (λ no. let f = s.filled no in omega arith), sized.1);
-              filled_below = whole.below;
+              sized = ((least-counted (count_at (K × V) h t) (least_at c) (low-enough (K × V) h c) sized.0 (λ no. let f = s.filled no in omega arith), sized.1), whole.below);
               ascends = ascends cmp (items_under (K × V) h t) rise_here;
               between = subst (AreBetween cmp min max) list s.between;
             };
@@ -119,12 +117,12 @@ module _ {K V : Type 0} (cmp : K → K → Ordering) (tree : TreeState K V) (id 
 
   module _ (content : Content (Node K V)) (same : tree.nodes ≡ content) (low : tree.len < 2 ^ 64) (w : IsBTree cmp tree) (s : SuitsNode cmp tree id parent min max)
       (met : Met) (leaves : met.leaf_level ≡ None) (spot : Spot K) (level : spot.level ≡ 0) (is : spot.id ≡ id) (up : spot.parent ≡ parent) (near : option_copied spot.min ≡ min) (far : option_copied spot.max ≡ max)
-      (answer : Result Met Fault) (meets : MeetsAt content cmp spot met answer) where
+      (answer : Result Met Fault) (meets : MeetsAt content cmp None spot met answer) where
     -- the walk from the node finds its leaves at its depth
     pub node-met : (after : Met) × (answer ≡ Ok after) × (after.leaf_level ≡ Some (depth_below tree id))
     node-met =
         let p = part-at tree.root low w s in
-        let found = subst (λ nodes. MeetsAt nodes cmp spot met answer) (sym same) meets in
+        let found = subst (λ nodes. MeetsAt nodes cmp None spot met answer) (sym same) meets in
         let m = found p.height p.part (record { here = p.here ∙ sym is; low = let l = p.low in omega arith; suits = rw (up, near, far) p.suits }) (rw leaves tt) in
         let deep : spot.level + p.height ≡ depth_below tree id = (let d = p.depth in omega arith) in
         (m.0, m.1, m.2.leaves ∙ ap Some deep)

@@ -1,10 +1,9 @@
 pub mod OffByOne
-pub mod Parts
 pub mod Positions
 pub mod PositionLaws
-pub mod ListedLaws
 pub mod Names
 pub mod Verdicts
 pub mod Faults
+pub mod Sizes
 pub mod Spots
 pub mod Reading

@@ -1,18 +1,23 @@
 //! Checks the nodes of a store of any content, and finds the first fault.
-ghost use Rattle.std.specs.Prelude.{◌≡◌, ◌+◌, ◌<◌, ◌≤◌, None, IfErr, IfOk, Some, Ok, Err, option_copied, slice_get};
+//!
+//! One walk serves `validate`, `validate_node` and `is_off_by_one`, which exempts a node: it may have one item too many or too few.
+ghost use Rattle.std.specs.Prelude.{◌≡◌, ◌↔◌, ◌+◌, ◌<◌, ◌≤◌, None, IfErr, IfOk, IsTrue, Some, Ok, Err, option_copied, slice_get};
 ghost use Rattle.std.specs.FinMap as map;
 ghost use Rattle.std.specs.Mem.{FitsInMemory};
 ghost use Rattle.btree_item.specs.declared.fault.Fault.TheVariants.{NoNode, NotBalanced};
 ghost use Rattle.btree_item.specs.declared.TheConstants.{MAX_LEVELS};
 ghost use Rattle.btree_node.specs.Node.{view_of};
 ghost use Rattle.btree_node.specs.contracts.node.Node.{the_row as node_row};
+ghost use Rattle.btree_view.specs.Checks.{GivesNodeVerdict};
 ghost use Rattle.btree_view.specs.View.{children_of};
 ghost use Rattle.btree_valid.specs.Faults.{AcceptsAmong, AreBTree, BlamesAmong, IsVerdictFor, SuitsAmong};
 ghost use Rattle.btree_valid.specs.Names.{NamesAt};
+ghost use Rattle.btree_valid.specs.OffByOne.{IsOffByOneAmong};
 ghost use Rattle.btree_valid.specs.Positions.{nearest_of};
-ghost use Rattle.btree_valid.specs.Spots.{BlamesAt, CanMeet, FindsAt, FindsTree, IsFewer, IsNearestAfter, IsNearestBefore, MeetsAt, MeetsLeaf, MeetsTree, WasMore};
+ghost use Rattle.btree_valid.specs.Spots.{BlamesAt, CanMeet, FindsAt, FindsTree, IsFewer, IsNearestAfter, IsNearestBefore, MeetsAt, MeetsLeaf, MeetsTree, PassesAtSpot, WasMore};
 ghost use Rattle.btree_valid.specs.Verdicts.{IsVerdict, NamesTree};
 
+use crate::off_by_one::{Exempt, check_off_by_one};
 use btree_item::{Fault, MAX_LEVELS};
 use btree_node::{Node, Nodes};
 
@@ -114,23 +119,40 @@ fn below<'a, K, V>(
     }
 }
 
-// Checks a node and all below it, and returns what the walk has met, or the first fault.
+// Checks the node at a spot. The fault is the first, if no node is exempt.
+fn check_node<'a, K: Ord, V>(
+    node: &'a Node<K, V>,
+    exempt: Option<Exempt>,
+    spot: &Spot<'a, K>,
+) -> Result<(), Fault>
+    ensures passes { result ≡ Ok tt ↔ PassesAtSpot K.cmp exempt spot.now (view_of node.now) }
+    ensures verdict { exempt ≡ None
+        → GivesNodeVerdict K.cmp spot.now.parent spot.now.min spot.now.max (view_of node.now) result }
+{
+    match exempt {
+        Some(exempt) => check_off_by_one(node, exempt, spot.id, spot.parent, spot.min, spot.max),
+        None => node.validate(spot.parent, spot.min, spot.max),
+    }
+}
+
+// Checks a node and all below it, and returns what the walk has met, or a fault: the first, if no node is exempt.
 fn check_under<'a, K: Ord + 'a, V: 'a, C: Nodes<K, V>>(
     nodes: &'a C,
+    exempt: Option<Exempt>,
     spot: Spot<'a, K>,
     met: Met,
 ) -> Result<Met, Fault>
     requires { FitsInMemory (node_row K.row V.row) }
     ensures unused { map.get (C.content nodes.now) spot.entry.id ≡ None → result ≡ Err NoNode }
-    ensures only { FindsAt (C.content nodes.now) K.cmp spot.entry met result }
-    ensures always { MeetsAt (C.content nodes.now) K.cmp spot.entry met result }
-    ensures blames { BlamesAt (C.content nodes.now) K.cmp spot.entry met result }
-    ensures names { NamesAt (C.content nodes.now) K.cmp spot.entry met result }
+    ensures only { FindsAt (C.content nodes.now) K.cmp exempt spot.entry met result }
+    ensures always { MeetsAt (C.content nodes.now) K.cmp exempt spot.entry met result }
+    ensures blames { exempt ≡ None → BlamesAt (C.content nodes.now) K.cmp spot.entry met result }
+    ensures names { exempt ≡ None → NamesAt (C.content nodes.now) K.cmp spot.entry met result }
 {
     let Some(node) = nodes.get(spot.id) else {
         return Err(Fault::NoNode);
     };
-    node.validate(spot.parent, spot.min, spot.max)?;
+    check_node(node, exempt, &spot)?;
     if spot.level >= MAX_LEVELS {
         return Err(Fault::TooDeep);
     }
@@ -143,7 +165,7 @@ fn check_under<'a, K: Ord + 'a, V: 'a, C: Nodes<K, V>>(
         let Some(child) = node.child_id_opt(index) else {
             return Ok(passed);
         };
-        passed = check_under(nodes, below(node, &spot, index, child), passed)?;
+        passed = check_under(nodes, exempt, below(node, &spot, index, child), passed)?;
     }
     Ok(passed)
 }
@@ -174,7 +196,7 @@ fn check_root<K: Ord, V, C: Nodes<K, V>>(
         min: None,
         max: None,
     };
-    check_under(nodes, spot, start)
+    check_under(nodes, None, spot, start)
 }
 
 /// Checks that the nodes are exactly one well formed tree under the root, with this length, which is not above its limit. Returns the first
@@ -237,6 +259,35 @@ pub fn validate_node<K: Ord, V, C: Nodes<K, V>>(
         min,
         max,
     };
-    let after = check_under(nodes, spot, start)?;
+    let after = check_under(nodes, None, spot, start)?;
     Ok(after.leaf_level.unwrap_or(0))
+}
+
+/// Returns whether the nodes form a tree of at most 32 levels under a root, well formed except for its length and the number of items of
+/// node `exempt`. That node is there, and may have one item too many or too few; the root may also be empty.
+///
+/// It reads each node of such a tree once, and stops at the first that is wrong.
+pub fn is_off_by_one<K: Ord, V, C: Nodes<K, V>>(nodes: &C, root: usize, exempt: usize) -> bool
+    requires { FitsInMemory (node_row K.row V.row) }
+    ensures { IsTrue result ↔ IsOffByOneAmong K.cmp (C.content nodes.now) root exempt }
+{
+    let Some(_) = nodes.get(exempt) else {
+        return false;
+    };
+    let start = Met {
+        leaf_level: None,
+        items: None,
+        nodes: Some(nodes.len()),
+    };
+    let spot = Spot {
+        level: 0,
+        parent: None,
+        id: root,
+        min: None,
+        max: None,
+    };
+    match check_under(nodes, Some(Exempt { root, id: exempt }), spot, start) {
+        Ok(after) => after.nodes == Some(0),
+        Err(_) => false,
+    }
 }

@@ -1,8 +1,7 @@
-//! Decides whether nodes of any content form a tree, by walks that copy nothing and use no memory but the stack.
+//! Decides whether nodes of any content form a tree, by one walk that copies nothing and uses no memory but the stack.
 #![tactic(auto, using(btree_store::specs::ContentLaws::stores))]
 
 mod faults;
 mod off_by_one;
 
-pub use faults::{validate, validate_node};
-pub use off_by_one::is_off_by_one;
+pub use faults::{is_off_by_one, validate, validate_node};

@@ -27,7 +27,7 @@ returns-in_default-clause-names g c =
     subst (λ root. NamesTree g.K.Ord.cmp (g.C.Nodes.content c.args.nodes.now) root c.args.len (Ok start)) (sym c.in_default.is) (none-named (g.C.Nodes.content c.args.nodes.now) g.K.Ord.cmp c.args.len _ c.len.ensures.len start refl refl)
 
 pub returns-clause-names : goal.returns-clause-names
-returns-clause-names g c = subst (λ root. NamesTree g.K.Ord.cmp (g.C.Nodes.content c.args.nodes.now) root c.args.len c.check_under.result) (sym c.in-Some.is) (all-named (g.C.Nodes.content c.args.nodes.now) g.K.Ord.cmp c.args.len g.met.K.Ord.total _ _ c.len.ensures.len _ refl refl refl _ refl refl refl refl refl c.check_under.result c.check_under.ensures.only c.check_under.ensures.always c.check_under.ensures.names)
+returns-clause-names g c = subst (λ root. NamesTree g.K.Ord.cmp (g.C.Nodes.content c.args.nodes.now) root c.args.len c.check_under.result) (sym c.in-Some.is) (all-named (g.C.Nodes.content c.args.nodes.now) g.K.Ord.cmp c.args.len g.met.K.Ord.total _ _ c.len.ensures.len _ refl refl refl _ refl refl refl refl refl c.check_under.result c.check_under.ensures.only c.check_under.ensures.always (c.check_under.ensures.names refl))
 
 pub check_under-requires : goal.check_under-requires
 check_under-requires g c = c.requires

@@ -1,5 +1,5 @@
 use Rattle.btree_valid.proofs.Common.{◌≡◌, ◌∙◌, Some, ap, arith, inl, inr, refl, subst, sym, err_from_is_err_and, NamesTree}
-use Rattle.btree_valid.proofs.EnterLemmas.{parent-same, same-parent}
+use Rattle.btree_view.proofs.CheckLemmas.{other-parent, same-parent}
 use Rattle.btree_valid.proofs.faults.validate.Goals as goal
 
 pub returns-in_err-after-clause-accepts : goal.returns-in_err-after-clause-accepts
@@ -9,16 +9,16 @@ pub returns-then-ne-clause-accepts : goal.returns-then-ne-clause-accepts
 returns-then-ne-clause-accepts g c = λ tree low.
     let m = c.check_root.ensures.always tree in
     let same : m.0 ≡ c.in_ok-after.after = (let ok = m.1 in let was = c.in_ok-after.was in cc) in
-    absurd (parent-same c.in_ok-after.after.items (Some 0) c.if-ne.ensures (ap (λ after. after.items) (sym same) ∙ m.2))
+    absurd (other-parent c.in_ok-after.after.items (Some 0) _ c.if-ne.ensures refl (ap (λ after. after.items) (sym same) ∙ m.2))
 
 pub returns-then-ne-2-clause-accepts : goal.returns-then-ne-2-clause-accepts
 returns-then-ne-2-clause-accepts g c = λ tree low.
     let m = c.check_root.ensures.always tree in
     let same : m.0 ≡ c.in_ok-after.after = (let ok = m.1 in let was = c.in_ok-after.was in cc) in
-    absurd (parent-same c.in_ok-after.after.nodes (Some 0) c.if-ne-2.ensures (ap (λ after. after.nodes) (sym same) ∙ m.3))
+    absurd (other-parent c.in_ok-after.after.nodes (Some 0) _ c.if-ne-2.ensures refl (ap (λ after. after.nodes) (sym same) ∙ m.3))
 
 pub returns-clause-only : goal.returns-clause-only
-returns-clause-only g c = λ ok. c.in_ok-after.ensures.only (same-parent c.in_ok-after.after.items (Some 0) c.if-ne.ensures) (same-parent c.in_ok-after.after.nodes (Some 0) c.if-ne-2.ensures)
+returns-clause-only g c = λ ok. c.in_ok-after.ensures.only (same-parent c.in_ok-after.after.items (Some 0) _ c.if-ne.ensures refl) (same-parent c.in_ok-after.after.nodes (Some 0) _ c.if-ne-2.ensures refl)
 
 pub returns-in_err-after-clause-verdict : goal.returns-in_err-after-clause-verdict
 returns-in_err-after-clause-verdict g c =
@@ -28,12 +28,12 @@ returns-in_err-after-clause-verdict g c =
 pub returns-then-ne-clause-verdict : goal.returns-then-ne-clause-verdict
 returns-then-ne-clause-verdict g c =
     let n = subst (NamesTree g.K.Ord.cmp (g.C.Nodes.content c.args.nodes.now) c.args.root c.args.len) c.in_ok-after.was c.check_root.ensures.names in
-    inr (n.none, inl (λ same. parent-same c.in_ok-after.after.items (Some 0) c.if-ne.ensures (n.all_items.1 same), refl))
+    inr (n.none, inl (λ same. other-parent c.in_ok-after.after.items (Some 0) _ c.if-ne.ensures refl (n.all_items.1 same), refl))
 
 pub returns-then-ne-2-clause-verdict : goal.returns-then-ne-2-clause-verdict
 returns-then-ne-2-clause-verdict g c =
     let n = subst (NamesTree g.K.Ord.cmp (g.C.Nodes.content c.args.nodes.now) c.args.root c.args.len) c.in_ok-after.was c.check_root.ensures.names in
-    inr (n.none, inr (n.all_items.0 (same-parent c.in_ok-after.after.items (Some 0) c.if-ne.ensures), inl (λ few. parent-same c.in_ok-after.after.nodes (Some 0) c.if-ne-2.ensures (n.all_nodes.1 few), refl)))
+    inr (n.none, inr (n.all_items.0 (same-parent c.in_ok-after.after.items (Some 0) _ c.if-ne.ensures refl), inl (λ few. other-parent c.in_ok-after.after.nodes (Some 0) _ c.if-ne-2.ensures refl (n.all_nodes.1 few), refl)))
 
 pub returns-then-limit-len-clause-verdict : goal.returns-then-limit-len-clause-verdict
 returns-then-limit-len-clause-verdict g c =
@@ -41,8 +41,8 @@ returns-then-limit-len-clause-verdict g c =
     inr (
       n.none,
       inr (
-        n.all_items.0 (same-parent c.in_ok-after.after.items (Some 0) c.if-ne.ensures),
-        inr (n.all_nodes.0 (same-parent c.in_ok-after.after.nodes (Some 0) c.if-ne-2.ensures), inl (λ low. omega arith, refl)),
+        n.all_items.0 (same-parent c.in_ok-after.after.items (Some 0) _ c.if-ne.ensures refl),
+        inr (n.all_nodes.0 (same-parent c.in_ok-after.after.nodes (Some 0) _ c.if-ne-2.ensures refl), inl (λ low. omega arith, refl)),
       ),
     )
 
@@ -52,8 +52,8 @@ returns-clause-verdict g c =
     inr (
       n.none,
       inr (
-        n.all_items.0 (same-parent c.in_ok-after.after.items (Some 0) c.if-ne.ensures),
-        inr (n.all_nodes.0 (same-parent c.in_ok-after.after.nodes (Some 0) c.if-ne-2.ensures), inr (omega arith, refl)),
+        n.all_items.0 (same-parent c.in_ok-after.after.items (Some 0) _ c.if-ne.ensures refl),
+        inr (n.all_nodes.0 (same-parent c.in_ok-after.after.nodes (Some 0) _ c.if-ne-2.ensures refl), inr (omega arith, refl)),
       ),
     )
 

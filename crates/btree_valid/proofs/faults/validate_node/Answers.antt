@@ -28,13 +28,13 @@ pub returns-in_err-after-clause-blames : goal.returns-in_err-after-clause-blames
 returns-in_err-after-clause-blames g c =
     let e = err_from_is_err_and c.from_residual.result c.from_residual.ensures.1 in
     let start : Met = record { leaf_level = None; items = None; nodes = None } in
-    rw (e.1, e.2) (λ tree same low formed. node-blamed g.K.Ord.cmp tree c.args.id c.args.parent _ _ (g.C.Nodes.content c.args.nodes.now) same low formed start refl _ refl refl refl refl refl c.in_err-after.field-0.0 (subst (BlamesAt (g.C.Nodes.content c.args.nodes.now) g.K.Ord.cmp _ start) c.in_err-after.was c.check_under.ensures.blames))
+    rw (e.1, e.2) (λ tree same low formed. node-blamed g.K.Ord.cmp tree c.args.id c.args.parent _ _ (g.C.Nodes.content c.args.nodes.now) same low formed start refl _ refl refl refl refl refl c.in_err-after.field-0.0 (subst (BlamesAt (g.C.Nodes.content c.args.nodes.now) g.K.Ord.cmp _ start) c.in_err-after.was (c.check_under.ensures.blames refl)))
 
 pub returns-in_err-after-clause-verdict : goal.returns-in_err-after-clause-verdict
 returns-in_err-after-clause-verdict g c =
     let e = err_from_is_err_and c.from_residual.result c.from_residual.ensures.1 in
     let start : Met = record { leaf_level = None; items = None; nodes = None } in
-    rw (e.1, e.2) (node-named (g.C.Nodes.content c.args.nodes.now) g.K.Ord.cmp c.args.id c.args.parent _ _ start refl _ refl refl refl refl refl c.check_under.result c.check_under.ensures.names c.in_err-after.field-0.0 c.in_err-after.was)
+    rw (e.1, e.2) (node-named (g.C.Nodes.content c.args.nodes.now) g.K.Ord.cmp c.args.id c.args.parent _ _ start refl _ refl refl refl refl refl c.check_under.result (c.check_under.ensures.names refl) c.in_err-after.field-0.0 c.in_err-after.was)
 
 pub returns-clause-verdict : goal.returns-clause-verdict
 returns-clause-verdict g c =

@@ -1,4 +1,4 @@
-use Rattle.btree_more_stores.specs.CapacityLaws.{refuses-exactly}
+use Rattle.btree_more_stores.proofs.CapacityLaws.{refuses-exactly}
 use Rattle.test_node.proofs.callers.insert_exactly.Goals as goal
 
 pub returns : goal.returns
