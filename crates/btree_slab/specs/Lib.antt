@@ -126,3 +126,4 @@ pub use Rattle.btree_map.specs.CallerLaws as MapLaws
 pub use Rattle.btree_range_set.specs.CallerLaws as RangeLaws
 pub use Rattle.btree_range_map.specs.CallerLaws as RangeMapLaws
 pub use Rattle.btree_valid.proofs.ReadLaws
+pub mod Laws
