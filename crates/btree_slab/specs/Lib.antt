@@ -97,6 +97,7 @@ pub use Rattle.btree_laws.specs.TreeAddresses
 pub use Rattle.btree_laws.specs.TreeState
 pub use Rattle.btree_store.specs.Content
 pub use Rattle.btree_store.specs.SlotLaws
+pub use Rattle.btree_more_stores.specs.Filled
 pub use Rattle.btree_more_stores.specs.Gated
 pub use Rattle.btree_more_stores.specs.Odd
 pub use Rattle.btree_more_stores.specs.OddLaws
