@@ -62,7 +62,7 @@ pub mod generic {
     }
 }
 
-/// The contracts of a store, for any values and for nodes, and four stores.
+/// The contracts of a store, for any values and for nodes, and five stores.
 pub mod store {
     pub use btree_more_stores::{Fill, FixedSlab, Gate, OddSlab, SlotStore};
     pub use btree_node::{ClearNodes, CloneNodes, Nodes, NodesMut};
