@@ -68,6 +68,22 @@ fn replace_at<C: NodesMut<u64, u64>>(
     reply.pair(key, value)
 }
 
+fn replace_key_at<C: NodesMut<u64, u64>>(
+    map: &mut Map<C>,
+    addr: Address,
+    key: u64,
+    reply: &mut Reply,
+) -> Result<(), AllocError> {
+    if !map.is_valid(addr) {
+        return reply.word("not valid");
+    }
+    if !map.replaces_at(addr, &key) {
+        return reply.word("unfit");
+    }
+    let old = map.replace_key_at(addr, key);
+    reply.number(old)
+}
+
 fn replace_value_at<C: NodesMut<u64, u64>>(
     map: &mut Map<C>,
     addr: Address,
@@ -200,6 +216,10 @@ pub(crate) fn serve_edits<C: NodesMut<u64, u64>>(
     let Some(addr) = map_address(map, first) else {
         return Ok(false);
     };
+    if let ("replace_key_at", Some(key)) = (verb, number(more)) {
+        replace_key_at(map, addr, key, reply)?;
+        return Ok(true);
+    }
     match (verb, pair(more), read_action(more)) {
         ("insert_at", Some(pair), _) => insert_at(map, addr, pair, reply)?,
         ("insert_exactly_at", Some(pair), _) => insert_exactly_at(map, addr, pair, reply)?,

@@ -21,7 +21,7 @@ const LINES: [&str; 37] = [
     "a, b: is_valid item pair_at normalize leaf_address next_item_address previous_item_address next_item_or_back_address ADDRESS",
     "a, b: next_back_address previous_front_address ADDRESS; fits_at replaces_at ADDRESS KEY",
     "a, b: has_node node NODE; get_in address_in key_fits_in NODE KEY; validate_node NODE PARENT LOW HIGH",
-    "a, b: insert_at insert_exactly_at replace_at ADDRESS KEY=VALUE; remove_at ADDRESS; replace_value_at ADDRESS =VALUE",
+    "a, b: insert_at insert_exactly_at replace_at ADDRESS KEY=VALUE; remove_at ADDRESS; replace_key_at ADDRESS KEY; replace_value_at ADDRESS =VALUE",
     "a, b: item_mut ADDRESS WRITE; update_at ADDRESS ACTION; get_mut_in NODE KEY WRITE; update_in NODE KEY ACTION",
     "a, b: iter keys values into_iter into_keys into_values ENDS; iter_mut values_mut ENDS WRITE; loop into_loop",
     "a, b: range LOW HIGH ENDS; range_mut LOW HIGH ENDS WRITE; is_valid_range LOW HIGH: [3 (3 and 3] 3) are bounds, .. is none",

@@ -6,7 +6,7 @@ pub use Rattle.std.proofs.lemmas.Result.{IfErr-weaker, IfOk-weaker}
 pub use Rattle.std.specs.Cmp.{IsTotalOrder}
 pub use Rattle.std.specs.List.{insert, remove}
 pub use Rattle.std.specs.declared.cmp.Ordering.{Ordering}
-pub use Rattle.btree_ext.specs.Exchange.{IsExchanged, IsValueExchanged}
+pub use Rattle.btree_ext.specs.Exchange.{IsExchanged, IsKeyExchanged, IsValueExchanged}
 pub use Rattle.btree_ext.specs.Insert.{IsInserted, IsGapFor}
 pub use Rattle.btree_ext.specs.KeyWritten.{address_at_key}
 pub use Rattle.btree_ext.specs.Remove.{IsRemoved, IsInnerAt, LeadsBehind, HasChildBehind}

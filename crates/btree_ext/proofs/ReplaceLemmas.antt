@@ -1,5 +1,5 @@
 -- A pair of an ascending list replaced by one whose key lies between its neighbours.
-use Rattle.btree_ext.proofs.Common.{◌≡◌, ◌<◌, ◌≤◌, ◌∙◌, ℕ, zero, suc, List, [], ◌∷◌, length, set, Some, slice_get, refl, sym, ap, subst, arith, slice_get_within, IsTotalOrder, insert, remove, Ordering, Address, TreeState, Changes, IsBTree, pairs_of, IsExchanged}
+use Rattle.btree_ext.proofs.Common.{◌≡◌, ◌<◌, ◌≤◌, ◌∙◌, ℕ, zero, suc, List, [], ◌∷◌, length, set, Some, slice_get, refl, sym, ap, subst, arith, slice_get_within, IsTotalOrder, insert, remove, Ordering, Address, TreeState, Changes, IsBTree, pairs_of, IsExchanged, IsKeyExchanged}
 use Rattle.std.proofs.lemmas.List.Edits.{length-remove}
 use Rattle.std.specs.declared.cmp.Ordering.TheVariants.{Less}
 use Rattle.btree_item.specs.Pairs.{Ascends, KeyFits}
@@ -7,7 +7,7 @@ use Rattle.btree_item.proofs.PairEdits.{Ascends-insert}
 use Rattle.btree_laws.proofs.LookUp.KeyInList.{Rises, rises}
 use Rattle.btree_laws.proofs.Removal.FromTree.{Ascends-remove}
 use Rattle.btree_find.specs.Fits.{KeyReplaces, ReplacesAt}
-use Rattle.btree_ext.proofs.ExchangeLemmas.{ExchangesAt, at-place, exchanged, listed, place-on}
+use Rattle.btree_ext.proofs.ExchangeLemmas.{ExchangesAt, at-place, exchanged, listed, place-on, stood-at}
 
 module _ {X : Type 0} where
   get-below_removed : (xs : List X) (p q : ℕ) → suc q ≤ p → slice_get (remove xs p) q ≡ slice_get xs q
@@ -76,3 +76,10 @@ module _ {K V : Type 0} (cmp : K → K → Ordering) (laws : IsTotalOrder cmp) w
       exchanged cmp laws old new a was (k, w) tree x
       (Ascends-set k w at.0 (pairs_of old) was (listed cmp laws old new a was (k, w) tree x) tree.ascends
       (subst (λ p. KeyReplaces cmp k p (pairs_of old)) (sym same) r.replaces))
+
+  pub key-exchanged : (old new : TreeState K V) (a : Address) (was : K × V) (k : K) → IsBTree cmp old → ReplacesAt cmp k old a
+      → Changes (λ p q. ExchangesAt p q a was (k, was.1)) old new → IsKeyExchanged old new a cmp was.0 k
+  key-exchanged old new a was k tree r x =
+      let e = pair-exchanged old new a was k was.1 tree r x in
+      let had = stood-at cmp laws old new a was (k, was.1) tree x in
+      record { value = was.1; had = had; exchanged = e; listed = sym e.here.item ∙ had }

@@ -2,6 +2,7 @@
 -- Read `KeepsAddresses` first: root, length and number of nodes stay, and so does every address, with its place.
 -- `IsExchanged` adds the new list, with another item at the place of the address. `IsValueExchanged`, where the key
 -- stays, is what `exchange` ensures; `insert` cites it for a key that is there, by `ExchangesValueAt` (`Insert.antt`).
+-- `IsKeyExchanged` is the same where the value stays.
 use Rattle.std.specs.Prelude.{◌≡◌, ◌≢◌, ℕ, Some, set, slice_get}
 use Rattle.std.specs.FinMap as map
 use Rattle.std.specs.declared.cmp.Ordering.{Ordering}
@@ -37,3 +38,10 @@ module _ {K V : Type 0} (old new : TreeState K V) (a : Address) where
     pub had : item_of old a ≡ Some (key, was)
     pub exchanged : IsExchanged cmp (key, is)
     pub listed : slice_get (pairs_of old) exchanged.place ≡ Some (key, was)
+
+  -- the same, where the value stays and only the key is replaced: `was` by `is`
+  pub record IsKeyExchanged (cmp : K → K → Ordering) (was is : K) : Type 0 where
+    pub value : V
+    pub had : item_of old a ≡ Some (was, value)
+    pub exchanged : IsExchanged cmp (is, value)
+    pub listed : slice_get (pairs_of old) exchanged.place ≡ Some (was, value)

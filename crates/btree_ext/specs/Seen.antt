@@ -27,6 +27,9 @@ module _ {S K V : Type 0} (state : S → TreeState K V) (old new : S) where
   abbrev pub IsExchanged : Address → (K → K → Ordering) → K × V → Type 0
   IsExchanged a cmp x = exchange.IsExchanged (state old) (state new) a cmp x
 
+  abbrev pub IsKeyExchanged : Address → (K → K → Ordering) → (was is : K) → Type 0
+  IsKeyExchanged a cmp was is = exchange.IsKeyExchanged (state old) (state new) a cmp was is
+
   abbrev pub IsValueExchanged : Address → (K → K → Ordering) → (was is : V) → Type 0
   IsValueExchanged a cmp was is = exchange.IsValueExchanged (state old) (state new) a cmp was is
 

@@ -8,7 +8,7 @@ ghost use Rattle.btree_laws.specs.TreeState.{IsBTree, IsLeafAddressIn, IsOccupie
 ghost use Rattle.btree_find.specs.Fits.{FitsAt, FitsIn, ReplacesAt};
 ghost use Rattle.btree_ext.specs.Outcomes.{FindsSameBelow, value_below};
 ghost use Rattle.btree_ext.specs.Changes.{ExchangesAt, ExchangesAtKey, with_value_at_key};
-ghost use Rattle.btree_ext.specs.Seen.{InsertsAt, IsExchanged, IsGrantedIfAbsent, IsRefusedAtGap, IsRemoved, IsValueExchanged, RefusesAt, RunsAt, RunsByKey};
+ghost use Rattle.btree_ext.specs.Seen.{InsertsAt, IsExchanged, IsGrantedIfAbsent, IsKeyExchanged, IsRefusedAtGap, IsRemoved, IsValueExchanged, RefusesAt, RunsAt, RunsByKey};
 
 use crate::ext::BTreeExt;
 use btree_item::{Address, Item, Refused, UpdateRefused};
@@ -99,6 +99,13 @@ pub trait BTreeExtMut<K: Ord + Drop, V: Drop>: BTreeExt<K, V> {
         requires { ReplacesAt K.cmp key (Self.state self.old) addr }
         ensures old { item_of (Self.state self.old) addr ≡ Some result }
         ensures exchanged { IsExchanged Self.state self.old self.new addr K.cmp (key, value) };
+
+    /// Replaces the key of the item at an address, and returns the old key. It changes one node.
+    ///
+    /// An item must be at the address, and the new key must lie between its neighbours: `replaces_at` decides that.
+    fn replace_key_at(&mut self, addr: Address, key: K) -> K
+        requires { ReplacesAt K.cmp key (Self.state self.old) addr }
+        ensures { IsKeyExchanged Self.state self.old self.new addr K.cmp result key };
 
     /// Replaces the value of the item at an address, and returns the old value. It changes one node.
     ///

@@ -4,7 +4,7 @@ ghost use Rattle.btree_laws.specs.TreeState.{IsBTree, item_of, pairs_of};
 ghost use Rattle.btree_raw.specs.Limit.{IsWithinLimit};
 ghost use Rattle.btree_find.specs.Fits.{ReplacesAt};
 ghost use Rattle.btree_ext.specs.ByKey.{ReplaceOutcome};
-ghost use Rattle.btree_ext.specs.Exchange.{IsExchanged};
+ghost use Rattle.btree_ext.specs.Exchange.{IsExchanged, IsKeyExchanged};
 
 use crate::insertion::insert_at_gap;
 use btree_find::address_of;
@@ -29,6 +29,25 @@ pub fn replace_at<K: Ord, V, C: NodesMut<K, V>>(
     tree.tell_fits();
     match tree.node_mut(addr.id).item_mut(addr.offset) {
         Some(item) => item.set(key, value),
+        None => unreachable!(),
+    }
+}
+
+/// Replaces the key of the item at an address. Returns the old key. It changes one node and needs no new one.
+///
+/// `replaces_at` of `btree_find` decides whether a key may stand there.
+pub fn replace_key_at<K: Ord, V, C: NodesMut<K, V>>(
+    tree: &mut RawBTree<K, V, C>,
+    addr: Address,
+    key: K,
+) -> K
+    requires tree { IsBTree K.cmp tree.old }
+    requires replaces { ReplacesAt K.cmp key tree.old addr }
+    ensures { IsKeyExchanged tree.old tree.new addr K.cmp result key }
+{
+    tree.tell_fits();
+    match tree.node_mut(addr.id).item_mut(addr.offset) {
+        Some(item) => item.set_key(key),
         None => unreachable!(),
     }
 }

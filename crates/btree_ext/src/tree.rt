@@ -10,7 +10,7 @@ use crate::ext_mut::BTreeExtMut;
 use crate::insertion::{insert, insert_absent};
 use crate::insertion_at::{insert_at, insert_exactly_at};
 use crate::removal::{remove_at, remove_by, remove_entry};
-use crate::replacement::{replace, replace_at};
+use crate::replacement::{replace, replace_at, replace_key_at};
 use crate::updates::{update, update_in};
 use crate::updates_at::update_at;
 use crate::values::{exchange, get_mut, get_mut_by, get_mut_in, pair_mut};
@@ -376,6 +376,10 @@ impl<K: Ord + Drop, V: Drop, C: NodesMut<K, V>> BTreeExtMut<K, V> for Tree<K, V,
 
     fn replace_at(&mut self, addr: Address, key: K, value: V) -> (K, V) {
         replace_at(&mut self.raw, addr, key, value)
+    }
+
+    fn replace_key_at(&mut self, addr: Address, key: K) -> K {
+        replace_key_at(&mut self.raw, addr, key)
     }
 
     fn replace_value_at(&mut self, addr: Address, value: V) -> V {

@@ -384,6 +384,10 @@ impl<K: Ord + Drop, V: Drop, C: NodesMut<K, V>> BTreeExtMut<K, V> for BTreeMap<K
         self.tree.replace_at(addr, key, value)
     }
 
+    fn replace_key_at(&mut self, addr: Address, key: K) -> K {
+        self.tree.replace_key_at(addr, key)
+    }
+
     fn replace_value_at(&mut self, addr: Address, value: V) -> V {
         self.tree.replace_value_at(addr, value)
     }

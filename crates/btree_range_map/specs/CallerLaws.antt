@@ -1,6 +1,6 @@
 -- What callers conclude from the words of a map of ranges: which numbers are between two others, which values the ranges have
 -- that meet some numbers, and that `==` is equality of the ranges.
--- `#![tactic(auto, using(btree_range_map::specs::CallerLaws::range_laws))]` gives `search` the laws on ranges that meet.
+-- The ruleset gives `search` the laws on ranges that meet.
 use Rattle.std.proofs.Common.{◌≡◌, ◌≤◌, ◌<◌, ◌∙◌, ℕ, max, min, Bool, true, false, nat_eq, nat_le, nat_lt, List, [], ◌∷◌, cond, Some, refl, sym, ap, arith, ◌⊎◌, inl, inr, Decides}
 use Rattle.std.proofs.lemmas.Bool.{and_from, and_parts, cases_Bool, eq-eqb, eqb-true, le-leb, leb-true, lt-ltb, ltb-true}
 use Rattle.std.specs.Cmp.Lexicographic.{pointwise_decides}

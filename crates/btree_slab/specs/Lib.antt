@@ -97,6 +97,7 @@ pub use Rattle.btree_laws.specs.TreeAddresses
 pub use Rattle.btree_laws.specs.TreeState
 pub use Rattle.btree_store.specs.Content
 pub use Rattle.btree_store.specs.SlotLaws
+pub use Rattle.btree_more_stores.specs.Filled
 pub use Rattle.btree_more_stores.specs.Gated
 pub use Rattle.btree_more_stores.specs.Odd
 pub use Rattle.btree_more_stores.specs.OddLaws
@@ -127,3 +128,4 @@ pub use Rattle.btree_range_set.specs.CallerLaws as RangeLaws
 pub use Rattle.btree_range_map.specs.CallerLaws as RangeMapLaws
 pub use Rattle.btree_range_map.proofs.UpdateLaws
 pub use Rattle.btree_valid.proofs.ReadLaws
+pub mod Laws

@@ -62,9 +62,9 @@ pub mod generic {
     }
 }
 
-/// The contracts of a store, for any values and for nodes, and four stores.
+/// The contracts of a store, for any values and for nodes, and five stores.
 pub mod store {
-    pub use btree_more_stores::{FixedSlab, Gate, OddSlab};
+    pub use btree_more_stores::{Fill, FixedSlab, Gate, OddSlab, SlotStore};
     pub use btree_node::{ClearNodes, CloneNodes, Nodes, NodesMut};
     pub use btree_store::{Clear, Slab, SlabClone, SlabMut, SlabStore};
 }

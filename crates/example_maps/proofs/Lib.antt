@@ -1,3 +1,4 @@
+mod GapLemmas
 mod BlockLemmas
 pub mod BookingLemmas
 mod MemoryLemmas

@@ -1,6 +1,7 @@
-//! A listing, page by page: a page is the beginning of the range after the last part of the page before.
-ghost use Rattle.std.specs.Prelude.{◌≡◌, ◌++◌, OnOk};
-ghost use Rattle.example_maps.specs.Listing.{page_after};
+//! A listing, page by page: a page is the beginning of the range after the last part of the page before. And how many parts a range has.
+#![tactic(auto, using(btree_slab::specs::Laws::map_laws))]
+ghost use Rattle.std.specs.Prelude.{◌≡◌, ◌≤◌, ◌++◌, OnOk};
+ghost use Rattle.example_maps.specs.Listing.{count_between, page_after};
 
 use btree_slab::BTreeMap;
 use std::alloc::AllocError;
@@ -26,4 +27,16 @@ pub fn next_page(
         left -= 1;
     }
     Ok(())
+}
+
+/// Counts the parts from `first` on and before `last`.
+///
+/// The prover has to know that the count fits in `usize`. The listing's length does, which the call of `len` says, and a law of the
+/// ruleset `map_laws` says that a range is not longer.
+pub fn count_parts(listing: &BTreeMap<u32, u64>, first: u32, last: u32) -> usize
+    requires { first ≤ last }
+    ensures { result ≡ count_between first last listing.now }
+{
+    let _all = listing.len();
+    listing.range(first..last).count()
 }

@@ -33,7 +33,7 @@ use crate::bookings::count_overlaps;
 use crate::cache::put;
 use crate::copies::{is_readable, read_copy};
 use crate::lines::read_stock;
-use crate::listing::next_page;
+use crate::listing::{count_parts, next_page};
 use crate::memory::{Owner, give, owner_of, region_of, release, reserve as reserve_memory};
 use crate::minutes::{Minute, logged};
 use crate::orders::{cancel, take_best};
@@ -237,6 +237,7 @@ fn print_page(rt: &impl Print, alloc: Global, stock: &mut BTreeMap<u32, u64>) ->
     for part in page.iter() {
         rt.println(format_args!("after 17: {part}"))?;
     }
+    rt.println(format_args!("before 1203: {}", count_parts(stock, 17, 1203)))?;
     set_stock(stock, 408, 0)?;
     remove_sold_out(stock, &17);
     rt.println(format_args!("not sold out: {}", stock.len()))

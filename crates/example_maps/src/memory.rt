@@ -1,7 +1,7 @@
 //! The memory of a machine, and who owns which addresses: a map of ranges. Two regions of one owner that touch are one region.
 ghost use Rattle.std.specs.Prelude.{◌≡◌, ◌+◌, IfNone, IfOk, IfSome, None, OnErr, OnOk};
 ghost use Rattle.btree_slab.specs.RangeMapRanges.{IsAssigned, IsCleared, IsMaximalRun, value_at};
-ghost use Rattle.example_maps.specs.Memory.{AreFreeBelow, Reserves};
+ghost use Rattle.example_maps.specs.Memory.{AreFreeBelow, HasNoRoom, Reserves};
 
 use btree_slab::generic::map::Refused;
 use btree_slab::range_map::{RangeMap, Span};
@@ -16,7 +16,7 @@ pub enum Owner {
     Process(u32),
 }
 
-// Returns the first `size` free addresses in a row below `end`, from the first of them up to the one after the last.
+// Returns `size` free addresses in a row below `end`, from the first of them up to the one after the last.
 fn first_free<C: NodesMut<u64, Span<Owner>>>(
     memory: &RangeMap<Owner, C>,
     size: u64,
@@ -24,6 +24,7 @@ fn first_free<C: NodesMut<u64, Span<Owner>>>(
 ) -> Option<(u64, u64)>
     ensures free { IfSome result (AreFreeBelow end memory.now) }
     ensures size { IfSome result (λ run. run.1 ≡ run.0 + size) }
+    ensures none { IfNone result (HasNoRoom end size memory.now) }
 {
     let mut gaps = memory.gaps(0, end);
     while let Some((start, last)) = gaps.next() {
@@ -34,8 +35,8 @@ fn first_free<C: NodesMut<u64, Span<Owner>>>(
     None
 }
 
-/// Reserves the first `size` addresses in a row that are free, below `end`, and returns the first of them. Returns `None`, and nothing
-/// changes, if there are no such addresses.
+/// Reserves `size` addresses in a row that are free, below `end`, and returns the first of them. Returns `None`, and nothing changes, if
+/// there are no such addresses.
 pub fn reserve<C: NodesMut<u64, Span<Owner>>>(
     memory: &mut RangeMap<Owner, C>,
     size: u64,

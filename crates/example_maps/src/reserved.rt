@@ -1,12 +1,12 @@
 //! Numbered blocks, of which some are reserved: a set of ranges. A run of free blocks is found in the gaps.
-ghost use Rattle.std.specs.Prelude.{◌≡◌, ◌+◌, IfOk, IfSome, OnErr};
-ghost use Rattle.example_maps.specs.Blocks.{AreFreeBelow, Reserves};
+ghost use Rattle.std.specs.Prelude.{◌≡◌, ◌+◌, IfNone, IfOk, IfSome, OnErr};
+ghost use Rattle.example_maps.specs.Blocks.{AreFreeBelow, HasNoRoom, Reserves};
 
 use btree_slab::generic::map::Refused;
 use btree_slab::range_set::RangeSet;
 use btree_slab::store::NodesMut;
 
-// Returns the first run of `size` free blocks below `end`, from its first block up to the one after its last.
+// Returns a run of `size` free blocks below `end`, from its first block up to the one after its last.
 fn first_fit<C: NodesMut<u64, u64>>(
     reserved: &RangeSet<C>,
     size: u64,
@@ -14,6 +14,7 @@ fn first_fit<C: NodesMut<u64, u64>>(
 ) -> Option<(u64, u64)>
     ensures free { IfSome result (AreFreeBelow end reserved.now.ranges) }
     ensures size { IfSome result (λ run. run.1 ≡ run.0 + size) }
+    ensures none { IfNone result (HasNoRoom end size reserved.now.ranges) }
 {
     let mut gaps = reserved.gaps(0, end);
     while let Some((start, last)) = gaps.next() {
@@ -24,8 +25,8 @@ fn first_fit<C: NodesMut<u64, u64>>(
     None
 }
 
-/// Reserves the first `size` blocks in a row that are free, below `end`, and returns the number of the first of them. Returns `None`, and
-/// nothing changes, if there are no such blocks.
+/// Reserves `size` blocks in a row that are free, below `end`, and returns the number of the first of them. Returns `None`, and nothing
+/// changes, if there are no such blocks.
 pub fn reserve<C: NodesMut<u64, u64>>(
     reserved: &mut RangeSet<C>,
     size: u64,

@@ -1,6 +1,7 @@
-use Rattle.example_maps.proofs.MemoryLemmas.{AreAllFree}
+use Rattle.example_maps.proofs.GapLemmas.{AreLeft}
+use Rattle.example_maps.proofs.MemoryLemmas.{IsFree}
 use Rattle.example_maps.proofs.memory.first_free.Given as goal
 
--- the addresses in the gaps that are left are free
+-- what is in the gaps that are left is free, and each free run is in them
 abbrev pub invariant-loop-start : goal.invariant-loop-start
-invariant-loop-start g l = AreAllFree l.fn.end l.fn.memory l.gaps
+invariant-loop-start g l = AreLeft (IsFree l.fn.end l.fn.memory) l.fn.size l.gaps

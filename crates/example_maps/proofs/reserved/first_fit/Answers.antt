@@ -1,15 +1,27 @@
-use Rattle.std.proofs.Common.{arith}
-use Rattle.example_maps.proofs.BlockLemmas.{all-free, gap-free, rest-free}
+use Rattle.std.proofs.Common.{ℕ, List, subst, arith}
+use Rattle.example_maps.proofs.GapLemmas.{AreLeft, none-left, rest-left, run-free}
+use Rattle.example_maps.proofs.BlockLemmas.{IsFree, gaps-left}
 use Rattle.example_maps.proofs.reserved.first_fit.Goals as goal
 
 pub loop-start-init : goal.loop-start-init
-loop-start-init g c = all-free c.args.end c.args.reserved.now.ranges c.gaps-gaps.result c.gaps-gaps.ensures
+loop-start-init g c = gaps-left c.args.end c.args.reserved.now.ranges c.args.size c.gaps-gaps.result c.gaps-gaps.ensures
 
 pub returns-then-size-saturating_sub-clause-free : goal.returns-then-size-saturating_sub-clause-free
 returns-then-size-saturating_sub-clause-free g c =
-    gap-free c.args.end c.args.reserved.now.ranges c.loop-start.gaps c.next.new.self (c.in-Some.start, c.in-Some.last) c.loop-start.invariant c.in-Some.ensures.steps
-    c.args.size (omega (arith, c.if-size-saturating_sub.true, c.saturating_sub.ensures))
+    let IsFreeHere = IsFree c.args.end c.args.reserved.now.ranges in
+    let left = subst (λ (gaps : List (ℕ × ℕ)). AreLeft IsFreeHere c.args.size gaps) c.in-Some.ensures.steps c.loop-start.invariant in
+    run-free IsFreeHere c.args.size (c.in-Some.start, c.in-Some.last) c.next.new.self left
+    (omega (arith, c.if-size-saturating_sub.true, c.saturating_sub.ensures))
 
 pub loop-start-preserved : goal.loop-start-preserved
 loop-start-preserved g c =
-    rest-free c.args.end c.args.reserved.now.ranges c.loop-start.gaps c.next.new.self (c.in-Some.start, c.in-Some.last) c.loop-start.invariant c.in-Some.ensures.steps
+    let IsFreeHere = IsFree c.args.end c.args.reserved.now.ranges in
+    let left = subst (λ (gaps : List (ℕ × ℕ)). AreLeft IsFreeHere c.args.size gaps) c.in-Some.ensures.steps c.loop-start.invariant in
+    rest-left IsFreeHere c.args.size (c.in-Some.start, c.in-Some.last) c.next.new.self left
+    (omega (arith, c.if-size-saturating_sub.false, c.saturating_sub.ensures))
+
+pub returns-clause-none : goal.returns-clause-none
+returns-clause-none g c = λ some start.
+    let IsFreeHere = IsFree c.args.end c.args.reserved.now.ranges in
+    none-left IsFreeHere c.args.size start
+    (subst (λ (gaps : List (ℕ × ℕ)). AreLeft IsFreeHere c.args.size gaps) c.in_default.ensures.steps.0 c.loop-start.invariant) some

@@ -1,0 +1,6 @@
+-- The laws for callers as rulesets: `#![tactic(auto, using(btree_slab::specs::Laws::map_laws))]` gives them to each function of a file.
+pub use Rattle.btree_find.specs.CallerLaws.{find_laws}
+pub use Rattle.btree_ext.specs.CallerLaws.{edit_laws}
+pub use Rattle.btree_map.specs.CallerLaws.{map_laws}
+pub use Rattle.btree_range_set.specs.CallerLaws.{range_laws as range_set_laws}
+pub use Rattle.btree_range_map.specs.CallerLaws.{range_laws as range_map_laws}
