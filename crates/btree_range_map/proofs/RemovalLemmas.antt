@@ -27,6 +27,7 @@ module _ {V : Type 0} where
         subst P (sym removed.pairs) (runs-taken (pairs_of old) place x runs (sym at))
     popped-runs None at removed same runs = subst (λ (t : TreeState ℕ (Span V)). AreRuns (pairs_of t)) (sym same) runs
 
-    pub popped-cleared : (x : ℕ × Span V) → Some x ≡ slice_get (pairs_of old) place → RemovesPlace old new cmp place x
-        → AreRuns (pairs_of old) → IsCleared (pairs_of old) x.0 x.1.end (pairs_of new)
-    popped-cleared x at removed runs n = ap (λ l. value_at l n) removed.pairs ∙ taken-cleared (pairs_of old) place x runs (sym at) n
+    pub popped-cleared : (result : Option (ℕ × Span V)) → result ≡ slice_get (pairs_of old) place → IfSome result (RemovesPlace old new cmp place)
+        → AreRuns (pairs_of old) → IfSome result (λ x. IsCleared (pairs_of old) x.0 x.1.end (pairs_of new))
+    popped-cleared (Some x) at removed runs = λ n. ap (λ l. value_at l n) removed.pairs ∙ taken-cleared (pairs_of old) place x runs (sym at) n
+    popped-cleared None at removed runs = tt
