@@ -1,4 +1,5 @@
 use Rattle.btree_map.proofs.Common.{◌≡◌, ◌∙◌, ◌∷◌, [], ap, sym, rules, inserted, pairs_of, inserted_all}
+use Rattle.btree_laws.specs.TreeState.{with_limit}
 use Rattle.btree_find.specs.CallerLaws.{none-first}
 use Rattle.btree_map.proofs.ExtensionLemmas.{all-into-none, first-and-rest}
 use Rattle.btree_map.proofs.map.BTreeMap.append.Goals as goal
@@ -8,6 +9,12 @@ returns-then-len-limit-clause-appended g c =
     let empty : pairs_of c.args.self.now ≡ [] = search rules in
     let all = all-into-none g.K.Ord.cmp (pairs_of c.args.other.now) c.tell_well_formed.ensures.well_formed.ascends in
     ap pairs_of c.swap.ensures.swapped ∙ ap pairs_of c.other.view_is ∙ sym all ∙ sym (ap (λ l. inserted_all g.K.Ord.cmp l (pairs_of c.args.other.now)) empty)
+
+pub returns-then-len-limit-clause-swapped : goal.returns-then-len-limit-clause-swapped
+returns-then-len-limit-clause-swapped g c = λ room some. (
+  c.swap.ensures.swapped ∙ (λ i. with_limit (c.other.view_is i) (c.self.view_is i).kept.limit),
+  c.swap.ensures.other_swapped ∙ (λ i. with_limit (c.self.view_is i) (c.other.view_is i).kept.limit),
+)
 
 pub loop-key-preserved : goal.loop-key-preserved
 loop-key-preserved g c =
