@@ -40,6 +40,23 @@ fn halve<C: ClearNodes<u64, Span<u64>> + Drop>(rt: &impl Abort, origin: C::Origi
     }
 }
 
+// The action numbers the ranges that meet some numbers, from 1 on.
+fn number_the_parts<C: ClearNodes<u64, Span<u64>> + Drop>(rt: &impl Abort, origin: C::Origin) {
+    let mut map: RangeMap<u64, C> = RangeMap::new(origin);
+    fill(rt, &mut map, THREE);
+    let mut calls = 0u64;
+    let outcome = map.update(4, 10, |_| {
+        calls = calls.wrapping_add(1);
+        calls
+    });
+    assert_same(rt, (outcome.is_ok(), calls), (true, 3));
+    check_ranges(
+        rt,
+        &map,
+        &[(3, 4, 4), (4, 5, 1), (7, 9, 2), (9, 10, 3), (10, 12, 4)],
+    );
+}
+
 // The second of two parts is refused, where there may be three ranges. The first one has been changed.
 fn refuse_the_second<C: ClearNodes<u64, Span<u64>> + Drop>(
     rt: &impl Abort,
@@ -60,5 +77,6 @@ fn refuse_the_second<C: ClearNodes<u64, Span<u64>> + Drop>(
 #[test]
 fn updates_values(rt: HostRuntime) {
     halve::<Heap>(&rt, rt.alloc());
+    number_the_parts::<Heap>(&rt, rt.alloc());
     refuse_the_second::<Heap>(&rt, RangeMap::with_limit(rt.alloc(), 3));
 }

@@ -43,6 +43,25 @@ fn pass_in_a_loop<C: NodesMut<u64, Span<u64>> + Drop>(rt: &impl Abort, origin: C
     assert_same(rt, next, 135);
 }
 
+// Takes all ranges out, in turn from the front and from the back.
+fn take_from_both_ends<C: NodesMut<u64, Span<u64>> + Drop>(rt: &impl Abort, origin: C::Origin) {
+    let mut map = twos::<C>(rt, origin);
+    for i in 0..22 {
+        let back = 132 - 3 * i;
+        assert_same(rt, map.pop_first(), Some(range(3 * i, 3 * i + 2, i)));
+        assert_same(rt, map.pop_last(), Some(range(back, back + 2, 44 - i)));
+        assert_same(rt, (map.get(3 * i), map.get(back)), (None, None));
+    }
+    assert_same(rt, map.pop_last(), Some(range(66, 68, 22)));
+    assert_same(rt, (map.pop_first(), map.pop_last()), (None, None));
+    assert_same(rt, (map.len(), map.store().len()), (0, 0));
+}
+
+#[test]
+fn takes_ranges(rt: HostRuntime) {
+    take_from_both_ends::<Heap>(&rt, rt.alloc());
+}
+
 #[test]
 fn passes_ranges(rt: HostRuntime) {
     pass_from_both_ends::<Heap>(&rt, rt.alloc());
