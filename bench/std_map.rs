@@ -31,6 +31,64 @@ fn sum_at(map: &BTreeMap<u64, u64>, keys: &[u64]) -> u64 {
         .fold(0, |sum, value| sum.wrapping_add(*value))
 }
 
+// Ranges with values as the crate `rangemap` keeps them: from the start of each range to its end and value.
+struct RangeMap(BTreeMap<u64, (u64, u64)>);
+
+impl RangeMap {
+    fn put(&mut self, start: u64, end: u64, value: u64) {
+        if start < end {
+            self.0.insert(start, (end, value));
+        }
+    }
+
+    // Takes in a range that has the new value, and cuts one that overlaps the new numbers.
+    fn adjust(&mut self, (first, (last, old)): (u64, (u64, u64)), start: &mut u64, end: &mut u64, value: u64) {
+        if old == value {
+            self.0.remove(&first);
+            (*start, *end) = ((*start).min(first), (*end).max(last));
+        } else if first < *end && *start < last {
+            self.0.remove(&first);
+            self.put(first, *start, old);
+            self.put(*end, last, old);
+        }
+    }
+
+    fn insert(&mut self, mut start: u64, mut end: u64, value: u64) {
+        let before = self.0.range(..=start).rev().take(2);
+        let touching = before.filter(|(first, span)| **first <= end && start <= span.0);
+        if let Some((first, span)) = touching.last() {
+            self.adjust((*first, *span), &mut start, &mut end, value);
+        }
+        while let Some((first, span)) = self.0.range(start..=end).next() {
+            if *first == end && span.1 != value {
+                break;
+            }
+            self.adjust((*first, *span), &mut start, &mut end, value);
+        }
+        self.0.insert(start, (end, value));
+    }
+
+    fn cut(&mut self, (first, (last, value)): (u64, (u64, u64)), start: u64, end: u64) {
+        self.0.remove(&first);
+        self.put(first, start, value);
+        self.put(end, last, value);
+    }
+
+    fn remove(&mut self, start: u64, end: u64) {
+        if let Some((first, span)) = self.0.range(..=start).next_back().filter(|(_, span)| start < span.0) {
+            self.cut((*first, *span), start, end);
+        }
+        while let Some((first, span)) = self.0.range(start..end).next() {
+            self.cut((*first, *span), start, end);
+        }
+    }
+
+    fn get(&self, number: u64) -> Option<u64> {
+        let (_, (end, value)) = self.0.range(..=number).next_back()?;
+        (number < *end).then_some(*value)
+    }
+}
+
 fn phase(name: &str, run: impl FnOnce() -> u64) {
     let since = Instant::now();
     let sum = run();
@@ -86,4 +144,17 @@ fn main() {
     phase("consume", || owned.into_iter().fold(0, sum));
     let owned = filled();
     phase("consume_back", || owned.into_iter().rev().fold(0, sum));
+
+    let mut ranges = RangeMap(BTreeMap::new());
+    let width = u64::MAX / (count as u64).max(1);
+    phase("range_map", || {
+        for (index, key) in put.iter().enumerate() {
+            match key.saturating_add(width) {
+                end if index % 2 == 0 => ranges.insert(*key, end, key % 4),
+                end => ranges.remove(*key, end),
+            }
+        }
+        ranges.0.len() as u64
+    });
+    phase("range_map_get", || present.iter().filter_map(|key| ranges.get(*key)).map(|value| value + 1).sum());
 }

@@ -1,6 +1,6 @@
 //! Times the kit's map and this repository's map: insertion, look-up, walks from both ends, removal, insertion in descending order, owning
 //! walks from both ends, and sets of ranges over both maps. Of this repository's map alone, it times short ranges, insertion at the address
-//! of the item before, and insertion in ascending order. Insertion and look-up are timed over a fixed table of nodes too, for up to 1,536 keys.
+//! of the item before, insertion in ascending order, and maps of ranges. Insertion and look-up are timed over a fixed table of nodes too, for up to 1,536 keys.
 //!
 //! Without an argument it runs over 1000 keys and prints the sum of each phase. With a number of keys as its argument it prints, for each
 //! phase, its name, the nanoseconds that it took, and its sum.
@@ -9,6 +9,7 @@
 mod ascent;
 mod descent;
 mod random;
+mod range_maps;
 mod ranges;
 mod spans;
 mod tables;
@@ -16,12 +17,15 @@ mod tables;
 use crate::ascent::{ascend, collect};
 use crate::descent::{descend, descend_at};
 use crate::random::{Numbers, drawn, shuffle};
+use crate::range_maps::{assign_and_remove, sum_values};
 use crate::ranges::sum_ranges;
 use crate::spans::{KitSpans, Spans, add_and_subtract};
 use crate::tables::{FixedNodes, KitMap, SlabMap, SlabNodes, Table};
 use btree_map::BTreeMap;
-use btree_node::NodesMut;
+use btree_node::{Node, NodesMut};
+use btree_range_map::{RangeMap, Span};
 use btree_range_set::RangeSet;
+use btree_store::SlabStore;
 use std::alloc::{AllocError, Global};
 use std::env::Env;
 use std::process::ExitCode;
@@ -273,6 +277,23 @@ fn measure_spans<S: Spans + Drop>(
     report(rt, is_timed, (map, "range_set"), since, count)
 }
 
+// The same with a value for each range, and then the values of all keys.
+fn measure_range_map<C: NodesMut<u64, Span<u64>> + Drop>(
+    rt: &(impl Print + Clock),
+    is_timed: bool,
+    origin: C::Origin,
+    keys: &Keys,
+) -> io::Result<()> {
+    let mut map: RangeMap<u64, C> = RangeMap::new(origin);
+    let width = u64::MAX / (keys.put.len() as u64).max(1);
+    let since = Instant::now(rt)?;
+    let count = assign_and_remove(&mut map, keys.put.as_slice(), width)? as u64;
+    report(rt, is_timed, ("btree_slab", "range_map"), since, count)?;
+    let since = Instant::now(rt)?;
+    let sum = sum_values(&map, keys.present.as_slice());
+    report(rt, is_timed, ("btree_slab", "range_map_get"), since, sum)
+}
+
 // The phases of a map that is filled once, each with a new map, so that all of them touch fresh memory.
 fn measure_maps(
     rt: &(impl Print + Clock),
@@ -313,7 +334,8 @@ fn measure_others(
         keys,
     )?;
     let ours: RangeSet<SlabNodes> = RangeSet::new(alloc);
-    measure_spans(rt, is_timed, "btree_slab", ours, keys)
+    measure_spans(rt, is_timed, "btree_slab", ours, keys)?;
+    measure_range_map::<SlabStore<Node<u64, Span<u64>>>>(rt, is_timed, alloc, keys)
 }
 
 fn measure_all(

@@ -1,24 +1,48 @@
--- What an update leaves: values that an action returned, of some numbers or, if an insertion was refused, of those below its
--- numbers.
-use Rattle.std.specs.Prelude.{◌≡◌, ℕ, ◌<◌, ◌≤◌, true, false, List, Option, Some, None}
+-- What an update leaves. Its action is called once at each part of the numbers that has a value, in order, and each part is
+-- given the value that the call returned. If the insertion of one is refused, those before it were given theirs.
+use Rattle.std.specs.Prelude.{◌≡◌, ℕ, ◌<◌, ◌≤◌, max, min, List, [], ◌∷◌, ◌++◌, map}
+use Rattle.btree_item.specs.declared.refused.Refused.{Refused}
 use Rattle.btree_range_map.specs.declared.span.Span.{Span}
-use Rattle.btree_range_map.specs.Ranges.{OverlapsNone, is_between, is_within, value_at}
+use Rattle.btree_range_map.specs.Ranges.{ranges_meeting}
+use Rattle.btree_range_map.specs.Series.{AreAssigned}
 
 module _ {V : Type 0} where
-  -- a number that had a value has one that was returned for it, and another number has none
-  abbrev pub IsReturned : (returns : V → V → Type 0) → (before after : Option V) → Type 0
-  IsReturned returns None after = after ≡ None
-  IsReturned returns (Some v) after = (w : V) × (after ≡ Some w) × returns v w
+  -- what a range has of the numbers from `start` up to `end`
+  abbrev pub part_between : (start end : ℕ) → ℕ × Span V → ℕ × Span V
+  part_between start end range = (max start range.0, record { end = min end range.1.end; value = range.1.value })
 
-  -- so it is with the numbers from `start` up to `end`, and the others have what they had
-  pub record IsUpdated (returns : V → V → Type 0) (old : List (ℕ × Span V)) (start end : ℕ) (new : List (ℕ × Span V)) : Type 0 where
-    pub inside : (n : ℕ) → is_between start end n ≡ true → IsReturned returns (value_at old n) (value_at new n)
-    pub outside : (n : ℕ) → is_between start end n ≡ false → value_at new n ≡ value_at old n
+  -- what each range that has one of these numbers has of them
+  abbrev pub parts_between : (start end : ℕ) → List (ℕ × Span V) → List (ℕ × Span V)
+  parts_between start end ranges = map (part_between start end) (ranges_meeting start end ranges)
 
-  -- of the numbers from `start` up to `end`, the first ones that have a value are a part of this range
+  -- of the numbers from `start` up to `end`, this is the first part that has a value
   pub record IsFirstPart (ranges : List (ℕ × Span V)) (start end : ℕ) (part : ℕ × Span V) : Type 0 where
     pub some : part.0 < part.1.end
     pub low : start ≤ part.0
     pub high : part.1.end ≤ end
-    pub none_before : OverlapsNone ranges start part.0
-    pub has : (n : ℕ) → is_within part n ≡ true → value_at ranges n ≡ Some part.1.value
+    pub first : parts_between start end ranges ≡ part ∷ parts_between part.1.end end ranges
+
+module _ {F V : Type 0} (Step : F → V → V → F → Type 0) where
+  -- one call at the value of each part, in order, took the action from f to f'; `given` are the parts with what it returned
+  abbrev pub Returns : F → (parts given : List (ℕ × Span V)) → F → Type 0
+  Returns f [] given f' = (given ≡ []) × (f' ≡ f)
+  Returns f (part ∷ parts) given f' = (w : V) × (f1 : F) × (more : List (ℕ × Span V))
+      × Step f part.1.value w f1 × Returns f1 parts more f'
+      × (given ≡ (part.0, record { end = part.1.end; value = w }) ∷ more)
+
+  -- the numbers of each part were given the value that the action returned for it
+  pub record IsUpdated (f : F) (parts old new : List (ℕ × Span V)) : Type 0 where
+    pub given : List (ℕ × Span V)
+    pub last : F
+    pub returns : Returns f parts given last
+    pub assigned : AreAssigned old given new
+
+  -- so were those of the first parts; for the part after them the refused value was returned, and no call was made after it
+  pub record IsUpdatedUntil (f : F) (parts old new : List (ℕ × Span V)) (refused : Refused ℕ (Span V)) : Type 0 where
+    pub called : List (ℕ × Span V)
+    pub rest : List (ℕ × Span V)
+    pub split : parts ≡ called ++ rest
+    pub given : List (ℕ × Span V)
+    pub last : F
+    pub returns : Returns f called (given ++ (refused.key, refused.value) ∷ []) last
+    pub assigned : AreAssigned old given new

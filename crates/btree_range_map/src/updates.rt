@@ -1,8 +1,8 @@
 //! Changes of the values that some numbers have.
-ghost use Rattle.std.specs.Prelude.{◌≡◌, ◌≤◌, ◌<◌, IfErr, IfNone, IfSome, OnOk};
-ghost use Rattle.btree_range_map.specs.Ranges.{JoinsNone, OverlapsNone};
+ghost use Rattle.std.specs.Prelude.{◌≡◌, ◌≤◌, ◌<◌, [], IfErr, IfNone, IfSome, OnOk};
+ghost use Rattle.btree_range_map.specs.Ranges.{AreRuns, JoinsNone};
 ghost use Rattle.btree_range_map.specs.State.{CountsLastRefusal, GrowsWithinLimit};
-ghost use Rattle.btree_range_map.specs.Updates.{IsFirstPart, IsUpdated};
+ghost use Rattle.btree_range_map.specs.Updates.{IsFirstPart, IsUpdated, IsUpdatedUntil, parts_between};
 
 use crate::{RangeMap, Span};
 use btree_item::Refused;
@@ -16,13 +16,15 @@ fn first_part<V: Copy + Eq, C: NodesMut<u64, Span<V>>>(
     end: u64,
 ) -> Option<(u64, Span<V>)>
     ensures some { IfSome result (IsFirstPart map.now.ranges start end) }
-    ensures none { IfNone result (OverlapsNone map.now.ranges start end) }
+    ensures none { IfNone result (parts_between start end map.now.ranges ≡ []) }
+    ensures runs { AreRuns map.now.ranges }
 {
     match map.overlapping(start, end).next() {
         Some((first, span)) => {
-            let last = end.min(span.end);
+            let low = start.max(first);
+            let high = end.min(span.end);
             let value = span.value;
-            Some((first.max(start), Span { end: last, value }))
+            Some((low, Span { end: high, value }))
         }
         None => None,
     }
@@ -33,20 +35,20 @@ impl<V: Copy + Eq, C: NodesMut<u64, Span<V>>> RangeMap<V, C> {
     /// `action` once for the numbers of each range that meets these, in ascending order, and inserts what it returns.
     ///
     /// If an insertion is refused, it returns the error of that one, with its numbers and value: those below them have been changed, and no other.
-    pub fn update<F: Fn(V) -> V>(
+    pub fn update<F: FnMut(V) -> V>(
         &mut self,
         start: u64,
         end: u64,
-        action: F,
+        mut action: F,
     ) -> Result<(), Refused<u64, Span<V>>>
         requires { F.IsAlwaysCallable action }
-        ensures updated { OnOk result
-            (IsUpdated (F.post action) self.old.ranges start end self.new.ranges) }
+        ensures updated { OnOk result (IsUpdated F.step action
+            (parts_between start end self.old.ranges) self.old.ranges self.new.ranges) }
         ensures uncounted { OnOk result (self.new.kept ≡ self.old.kept) }
         ensures bounded { GrowsWithinLimit self.old self.new }
 
-        ensures stopped { IfErr result (λ r.
-            IsUpdated (F.post action) self.old.ranges start r.key self.new.ranges) }
+        ensures stopped { IfErr result (IsUpdatedUntil F.step action
+            (parts_between start end self.old.ranges) self.old.ranges self.new.ranges) }
         ensures inside { IfErr result (λ r.
             (start ≤ r.key) × (r.key < r.value.end) × (r.value.end ≤ end)) }
         ensures joins_none { IfErr result (λ r.

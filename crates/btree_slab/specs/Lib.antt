@@ -126,5 +126,6 @@ pub use Rattle.btree_ext.specs.CallerLaws as EditLaws
 pub use Rattle.btree_map.specs.CallerLaws as MapLaws
 pub use Rattle.btree_range_set.specs.CallerLaws as RangeLaws
 pub use Rattle.btree_range_map.specs.CallerLaws as RangeMapLaws
+pub use Rattle.btree_range_map.proofs.UpdateLaws
 pub use Rattle.btree_valid.proofs.ReadLaws
 pub mod Laws

@@ -13,3 +13,6 @@ send-requires-3-send-T c κs = search (crosses, sendable) depth 40
 
 pub send-requires-4-send-T : goal.send-requires-4-send-T
 send-requires-4-send-T c κs = search (crosses, sendable) depth 40
+
+pub send-requires-5-send-T : goal.send-requires-5-send-T
+send-requires-5-send-T c κs = search (crosses, sendable) depth 40

@@ -13,3 +13,6 @@ share-requires-3-sync-T c κs = search (crosses, sendable) depth 40
 
 pub share-requires-4-sync-T : goal.share-requires-4-sync-T
 share-requires-4-sync-T c κs = search (crosses, sendable) depth 40
+
+pub share-requires-5-sync-T : goal.share-requires-5-sync-T
+share-requires-5-sync-T c κs = search (crosses, sendable) depth 40

@@ -1,0 +1,13 @@
+use Rattle.btree_range_map.proofs.Common.{nat_cmp}
+use Rattle.btree_range_map.proofs.RemovalLemmas.{popped-cleared, popped-runs}
+use Rattle.btree_range_map.proofs.map.RangeMap.pop_first.Goals as goal
+
+pub invariant_of-self : goal.invariant_of-self
+invariant_of-self g c =
+    let pop = c.pop_first.ensures in
+    (popped-runs c.self.inside.map c.pop_first.new.self nat_cmp 0 _ pop.pair pop.removed pop.unchanged c.self.invariant.0, c.self.invariant.1)
+
+pub returns-clause-cleared : goal.returns-clause-cleared
+returns-clause-cleared g c =
+    let pop = c.pop_first.ensures in
+    rw (← c.self.view_is) (popped-cleared c.self.inside.map c.pop_first.new.self nat_cmp 0 _ pop.pair pop.removed c.self.invariant.0)
