@@ -28,4 +28,4 @@ module _ {V : Type 0} (end : ℕ) (memory : RangeState V) where
       all n is =
           are.missing n
           ∙ and_from (is_between 0 end n) (not (is_some (value_at memory.ranges n))) (between-from 0 end n (omega arith) is.0)
-              (ap (λ o. not (is_some o)) is.1)
+          (ap (λ o. not (is_some o)) is.1)

@@ -1,5 +1,6 @@
 //! A listing, page by page: a page is the beginning of the range after the last part of the page before. And how many parts a range has.
 #![tactic(auto, using(btree_slab::specs::Laws::map_laws))]
+
 ghost use Rattle.std.specs.Prelude.{◌≡◌, ◌≤◌, ◌++◌, OnOk};
 ghost use Rattle.example_maps.specs.Listing.{count_between, page_after};
 
