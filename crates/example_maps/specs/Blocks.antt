@@ -1,5 +1,5 @@
 -- Numbered blocks, of which some are reserved.
-use Rattle.std.specs.Prelude.{◌≡◌, ℕ, ◌+◌, ◌<◌, true, false, ⊥, List, Option, Some, None}
+use Rattle.std.specs.Prelude.{◌≡◌, ℕ, ◌+◌, ◌<◌, true, false, List, Option, Some, None}
 use Rattle.btree_slab.specs.Ranges.{IsUnion, has_number, is_within}
 use Rattle.btree_slab.specs.State.{RangeState}
 

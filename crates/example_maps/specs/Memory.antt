@@ -1,5 +1,5 @@
 -- Addresses of which some have an owner.
-use Rattle.std.specs.Prelude.{◌≡◌, ℕ, ◌+◌, ◌<◌, true, ⊥, Option, Some, None}
+use Rattle.std.specs.Prelude.{◌≡◌, ℕ, ◌+◌, ◌<◌, true, Option, Some, None}
 use Rattle.btree_slab.specs.RangeMapRanges.{IsAssigned, is_between, value_at}
 use Rattle.btree_slab.specs.RangeMapState.{RangeState}
 
