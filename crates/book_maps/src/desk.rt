@@ -3,47 +3,36 @@ use crate::help::help;
 use crate::in_turn::in_turn;
 use crate::loops::serve_loops;
 use crate::merges::serve_merges;
-use crate::range_maps::serve_range_map;
-use crate::range_sets::serve_range_set;
-use crate::ranges::put_ranges;
 use crate::sets::{put_set, serve_sets};
 use book_map_calls::{put_map, serve_map};
 use book_text::{Desk, Desks, Ending, Reply, serve, word};
 use btree_slab::generic::{BTreeMap, BTreeSet};
-use btree_slab::range_map::{RangeMap, Span};
-use btree_slab::range_set::RangeSet;
 use btree_slab::store::{ClearNodes, CloneNodes, NodesMut};
 use std::alloc::{AllocError, Global};
 use std::io;
 use test_support::Refusing;
 
-/// Two maps, two sets, a set of ranges and a map of ranges, and from what stores are made: theirs, and others for comparisons and merges over
-/// two kinds of stores.
+/// Two maps and two sets, and from what stores are made: theirs, and others for comparisons and merges over two kinds of stores.
 #[derive(Drop)]
 struct Things<
     C: ClearNodes<u64, u64> + Drop,
     D: ClearNodes<u64, ()> + Drop,
     E: NodesMut<u64, u64>,
     F: NodesMut<u64, ()>,
-    G: ClearNodes<u64, Span<u64>> + Drop,
 >
 where
     C::Origin: Copy,
     D::Origin: Copy,
     E::Origin: Copy,
     F::Origin: Copy,
-    G::Origin: Copy,
 {
     alloc: Global,
     maps: (C::Origin, E::Origin),
     sets: (D::Origin, F::Origin),
-    range_maps: G::Origin,
     a: BTreeMap<u64, u64, C>,
     b: BTreeMap<u64, u64, C>,
     p: BTreeSet<u64, D>,
     q: BTreeSet<u64, D>,
-    r: RangeSet<C>,
-    m: RangeMap<u64, G>,
 }
 
 /// A desk, and the memory under what is on it.
@@ -96,14 +85,12 @@ impl<
     D: ClearNodes<u64, ()> + CloneNodes<u64, ()> + Drop,
     E: NodesMut<u64, u64> + Drop,
     F: NodesMut<u64, ()> + Drop,
-    G: ClearNodes<u64, Span<u64>> + Drop,
-> Desk for Things<C, D, E, F, G>
+> Desk for Things<C, D, E, F>
 where
     C::Origin: Copy,
     D::Origin: Copy,
     E::Origin: Copy,
     F::Origin: Copy,
-    G::Origin: Copy,
 {
     fn call(&mut self, words: &str, reply: &mut Reply) -> Result<bool, AllocError> {
         let (name, rest) = word(words);
@@ -113,8 +100,6 @@ where
             "b" => serve_pair::<C, E>(alloc, maps, &mut self.b, &mut self.a, rest, reply),
             "p" => serve_set::<D, F>(alloc, sets, &mut self.p, &mut self.q, rest, reply),
             "q" => serve_set::<D, F>(alloc, sets, &mut self.q, &mut self.p, rest, reply),
-            "r" => serve_range_set(maps.0, &mut self.r, rest, reply),
-            "m" => serve_range_map(self.range_maps, &mut self.m, rest, reply),
             "help" => {
                 help(reply)?;
                 Ok(true)
@@ -124,8 +109,6 @@ where
                 self.b = BTreeMap::new(maps.0);
                 self.p = BTreeSet::new(sets.0);
                 self.q = BTreeSet::new(sets.0);
-                self.r = RangeSet::new(maps.0);
-                self.m = RangeMap::new(self.range_maps);
                 reply.word("ok")?;
                 Ok(true)
             }
@@ -141,9 +124,7 @@ where
         put_set(&self.p, reply)?;
         reply.count(self.p.node_count())?;
         put_set(&self.q, reply)?;
-        reply.count(self.q.node_count())?;
-        put_ranges(self.r.iter(), reply)?;
-        put_ranges(self.m.iter(), reply)
+        reply.count(self.q.node_count())
     }
 }
 
@@ -165,31 +146,21 @@ fn set_out<
     D: ClearNodes<u64, ()> + Drop,
     E: NodesMut<u64, u64>,
     F: NodesMut<u64, ()>,
-    G: ClearNodes<u64, Span<u64>> + Drop,
->(
-    alloc: Global,
-    maps: (C::Origin, E::Origin),
-    sets: (D::Origin, F::Origin),
-    range_maps: G::Origin,
-) -> Things<C, D, E, F, G>
+>(alloc: Global, maps: (C::Origin, E::Origin), sets: (D::Origin, F::Origin)) -> Things<C, D, E, F>
 where
     C::Origin: Copy,
     D::Origin: Copy,
     E::Origin: Copy,
     F::Origin: Copy,
-    G::Origin: Copy,
 {
     Things {
         alloc,
         maps,
         sets,
-        range_maps,
         a: BTreeMap::new(maps.0),
         b: BTreeMap::new(maps.0),
         p: BTreeSet::new(sets.0),
         q: BTreeSet::new(sets.0),
-        r: RangeSet::new(maps.0),
-        m: RangeMap::new(range_maps),
     }
 }
 
@@ -199,27 +170,23 @@ pub(crate) fn serve_stores<
     D: ClearNodes<u64, ()> + CloneNodes<u64, ()> + Drop,
     E: ClearNodes<u64, u64> + CloneNodes<u64, u64> + Drop,
     F: ClearNodes<u64, ()> + CloneNodes<u64, ()> + Drop,
-    G: ClearNodes<u64, Span<u64>> + Drop,
-    H: ClearNodes<u64, Span<u64>> + Drop,
 >(
     rt: &(impl Print + Input + AllocGlobal),
     memory: &Refusing<Global>,
-    plain: (C::Origin, D::Origin, G::Origin),
-    refusing: (E::Origin, F::Origin, H::Origin),
+    plain: (C::Origin, D::Origin),
+    refusing: (E::Origin, F::Origin),
 ) -> Result<(), Ending>
 where
     C::Origin: Copy,
     D::Origin: Copy,
     E::Origin: Copy,
     F::Origin: Copy,
-    G::Origin: Copy,
-    H::Origin: Copy,
 {
     let alloc = rt.alloc();
     let (maps, sets) = ((plain.0, refusing.0), (plain.1, refusing.1));
-    let plain: Things<C, D, E, F, G> = set_out(alloc, maps, sets, plain.2);
+    let plain: Things<C, D, E, F> = set_out(alloc, maps, sets);
     let (maps, sets) = ((maps.1, maps.0), (sets.1, sets.0));
-    let desk: Things<E, F, C, D, H> = set_out(alloc, maps, sets, refusing.2);
+    let desk: Things<E, F, C, D> = set_out(alloc, maps, sets);
     let refusing = Watched {
         alloc,
         memory,

@@ -2,9 +2,9 @@
 use book_text::Reply;
 use std::alloc::AllocError;
 
-const LINES: [&str; 40] = [
+const LINES: [&str; 37] = [
     "what the lines may say, a line for each group",
-    "new: empty maps, sets and ranges over new stores. over slab, over refusing: the desk that the lines go to",
+    "new: empty maps and sets over new stores. over slab, over refusing: the desk that the lines go to",
     "refuse N: on the refusing desk, the N-th node or growth of memory from now on. insist CALL: each one of the call refused in turn, and how many were",
     "in_turn NAME VERB N: so for extend, extend_copied, from_iter or append of the numbers below N, on a new desk",
     "each COUNT STEP CALL; CALL: the calls for each number below COUNT, in steps of STEP or down, where # is the number; the last reply of each",
@@ -40,9 +40,6 @@ const LINES: [&str; 40] = [
     "p, q: contains_by get_by remove_by take_by QUERY; range_by QUERY QUERY ENDS",
     "p, q: extend from_iter ELEMENTS; append clone extend_copied equals compare same_hash plain_hash: with the other set; split_off ELEMENT: the elements of the other set from there on; limited N: an empty set with a limit",
     "p, q: union intersection difference symmetric_difference is_disjoint is_subset is_superset: with the other set",
-    "r: len is_empty nodes list first last clear; contains get limited NUMBER; insert remove overlaps gaps START END",
-    "m: the same, pop_first and pop_last; get_range NUMBER; insert START END VALUE; update START END NUMBER: the number is added to each value",
-    "r, m: iter ENDS; overlapping START END ENDS. A range is START..END, and with its value START..END=VALUE",
 ];
 
 /// Adds what the lines may say.

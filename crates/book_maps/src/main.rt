@@ -6,16 +6,12 @@ mod help;
 mod in_turn;
 mod loops;
 mod merges;
-mod range_maps;
-mod range_sets;
-mod ranges;
 mod set_queries;
 mod sets;
 
 use crate::desk::serve_stores;
 use book_text::Ending;
 use btree_slab::generic::Node;
-use btree_slab::range_map::Span;
 use btree_slab::store::SlabStore;
 use std::alloc::Global;
 use std::env::FillError;
@@ -39,13 +35,11 @@ fn run(rt: &(impl Env + Input + Print + AllocGlobal)) -> Result<(), Ending> {
         SlabStore<Node<u64, ()>>,
         RefusingStore<'_, SlabStore<Node<u64, u64>, &Refusing<Global>>>,
         RefusingStore<'_, SlabStore<Node<u64, ()>, &Refusing<Global>>>,
-        SlabStore<Node<u64, Span<u64>>>,
-        RefusingStore<'_, SlabStore<Node<u64, Span<u64>>, &Refusing<Global>>>,
     >(
         rt,
         &memory,
-        (rt.alloc(), rt.alloc(), rt.alloc()),
-        ((&memory, &memory), (&memory, &memory), (&memory, &memory)),
+        (rt.alloc(), rt.alloc()),
+        ((&memory, &memory), (&memory, &memory)),
     )
 }
 
