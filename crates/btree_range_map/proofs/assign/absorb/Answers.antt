@@ -36,7 +36,7 @@ replace_key_at-requires g c =
     let over = c.in-Overlapped.ensures (suc l.can.place) next in
     let rest = over.0 in
     let o = over.1 in
-    trim-fits c.loop-last.map (suc l.can.place) _ rest c.in-Overlapped.field-0 o l.can.runs
+    trim-fits c.loop-last.map (suc l.can.place) _ rest c.in-Overlapped.next o l.can.runs
 
 pub replace_at-requires : goal.replace_at-requires
 replace_at-requires g c =
@@ -47,7 +47,7 @@ replace_at-requires g c =
     let o = over.1 in
     let mid = c.replace_key_at.new.self in
     absorbing-fits c.args.map.now mid c.loop-last.at c.args.start c.args.span c.loop-last.end
-    (absorbing-trimmed c.args.map.now c.loop-last.map c.loop-last.at c.args.start c.args.span c.loop-last.end l c.in-Overlapped.field-0 rest o mid (key-exchanged c.loop-last.map c.replace_key_at.new.self c.in-Overlapped.field-0 _ _ _ rest (o.item.item ∙ o.listed) c.replace_key_at.ensures))
+    (absorbing-trimmed c.args.map.now c.loop-last.map c.loop-last.at c.args.start c.args.span c.loop-last.end l c.in-Overlapped.next rest o mid (key-exchanged c.loop-last.map c.replace_key_at.new.self c.in-Overlapped.next _ _ _ rest (o.item.item ∙ o.listed) c.replace_key_at.ensures))
 
 pub returns-in-Overlapped : goal.returns-in-Overlapped
 returns-in-Overlapped g c =
@@ -56,8 +56,8 @@ returns-in-Overlapped g c =
     let over = c.in-Overlapped.ensures (suc l.can.place) next in
     let rest = over.0 in
     let o = over.1 in
-    absorbing-last c.args.map.now c.loop-last.map c.loop-last.at c.args.start c.args.span c.loop-last.end l c.in-Overlapped.field-0 rest o c.replace_key_at.new.self
-    (key-exchanged c.loop-last.map c.replace_key_at.new.self c.in-Overlapped.field-0 _ _ _ rest (o.item.item ∙ o.listed) c.replace_key_at.ensures) c.replace_at.new.self c.replace_at.ensures.exchanged
+    absorbing-last c.args.map.now c.loop-last.map c.loop-last.at c.args.start c.args.span c.loop-last.end l c.in-Overlapped.next rest o c.replace_key_at.new.self
+    (key-exchanged c.loop-last.map c.replace_key_at.new.self c.in-Overlapped.next _ _ _ rest (o.item.item ∙ o.listed) c.replace_key_at.ensures) c.replace_at.new.self c.replace_at.ensures.exchanged
 
 pub replace_at-requires-in-Apart : goal.replace_at-requires-in-Apart
 replace_at-requires-in-Apart g c =

@@ -24,7 +24,7 @@ returns-in-Overlapped-clause-joins_none g c =
     let next = normal-place s c.args.at here.place here.has c.normalize-next.result c.normalize-next.ensures in
     let over = c.in-Overlapped.ensures here.place next in
     on-error c.put_before.result (JoinsNone (pairs_of s) c.args.start c.args.span.end c.args.span.value)
-    (put-none-over s c.args.at c.args.start c.args.span c.requires.can c.in-Overlapped.field-0 over.0 over.1)
+    (put-none-over s c.args.at c.args.start c.args.span c.requires.can c.in-Overlapped.next over.0 over.1)
 
 pub returns-in-Ok-clause-assigned : goal.returns-in-Ok-clause-assigned
 returns-in-Ok-clause-assigned g c =
