@@ -35,11 +35,11 @@ returns g c place is =
     let item = (subst (λ (o : Option Address). IsItemAt c.args.map.now place o) c.in-Some.is is).here in
     let starts = c.if-span-first.false in
     let past = c.if-next-span.false in
-    record {
+    (c.pair_at.result.1.now, record {
       first = c.pair_at.result.0.now;
       item = item;
       listed = sym item.item ∙ c.pair_at.ensures;
       starts = omega (arith, starts);
       past = omega (arith, past);
       differ = told-apart _ c.requires.same _ _ _ c.eq.ensures c.if-eq.false;
-    }
+    })
