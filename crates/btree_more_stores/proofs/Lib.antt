@@ -2,4 +2,6 @@
 pub mod CapacityLaws
 pub mod SlotLemmas
 pub mod TableLemmas
+pub mod FillLemmas
+pub mod FilledLemmas
 pub mod Crossing

@@ -1,3 +1,4 @@
+pub mod Filled
 pub mod Gated
 pub mod Lends
 pub mod Odd

@@ -6,6 +6,8 @@ ghost use Rattle.std.specs.Option.{option_copied_mut};
 ghost use Rattle.std.specs.Borrow.{sem};
 ghost use Rattle.std.specs.FinMap as map;
 
+mod filling;
+
 use arrayvec::ArrayVec;
 use btree_steps::Steps;
 use btree_store::{Clear, Slab, SlabClone, SlabMut};
