@@ -39,7 +39,7 @@ module _ {T : Type 0} (places : ℕ) (slots : List (Option T)) (free : List ℕ)
   -- the next place is filled
   pub table-next : (v : T) → IsTable places (set slots fresh (Some v)) free (fresh + 1) (held + 1)
   table-next v =
-      let none : cond (is_some (get_or slots fresh None)) 1 0 ≡ 0 = rw (table.beyond fresh (omega arith)) refl in
+      let none : ◌≡◌ {A = ℕ} (cond (is_some (get_or slots fresh None)) 1 0) 0 = rw (table.beyond fresh (omega arith)) refl in
       let more = sum_by-set (λ slot. cond (is_some slot) 1 0) slots fresh (Some v) None (omega (arith, table.long)) in
       record {
         long = length-set slots fresh (Some v) ∙ table.long;

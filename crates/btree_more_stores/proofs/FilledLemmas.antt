@@ -1,5 +1,5 @@
 -- What the calls of a `SlotStore` keep of its places (`IsFilled`).
-use Rattle.std.proofs.Common.{◌≡◌, ◌≢◌, ℕ, ◌+◌, ◌-◌, ◌<◌, ◌≤◌, List, [], ◌∷◌, ◌++◌, length, get_or, set, Option, Some, None, is_some, count_by, cond, refl, sym, ap, subst, ◌∙◌, inl, inr, arith, length-append, length-set}
+use Rattle.std.proofs.Common.{◌≡◌, ◌≢◌, ℕ, ◌+◌, ◌-◌, ◌<◌, ◌≤◌, List, [], ◌∷◌, ◌++◌, length, get_or, set, Option, Some, None, is_some, cond, refl, sym, ap, subst, ◌∙◌, inl, inr, arith, length-append, length-set}
 use Rattle.std.proofs.lemmas.Bool.{cases_eq, cases_lt}
 use Rattle.std.proofs.lemmas.List.{get_or_push, get_or_append_left, get_or_past}
 use Rattle.std.proofs.lemmas.List.Sums.{sum_by-append}
@@ -7,7 +7,7 @@ use Rattle.std.specs.FinMap.{insert}
 use Rattle.btree_store.specs.Content.{content_from}
 use Rattle.btree_store.specs.ContentLaws.{same_content}
 use Rattle.btree_store.specs.SlotLaws.{content-insert, get-content}
-use Rattle.btree_more_stores.proofs.TableLemmas.{table-refill, table-remove, table-write, used_within}
+use Rattle.btree_more_stores.proofs.TableLemmas.{table-refill, table-remove}
 use Rattle.btree_more_stores.specs.Table.{IsTable}
 use Rattle.btree_more_stores.specs.Filled.{IsFilled}
 

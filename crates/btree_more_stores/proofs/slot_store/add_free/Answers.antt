@@ -1,4 +1,4 @@
-use Rattle.std.proofs.Common.{◌≡◌, ◌∙◌, ◌+◌, ◌≤◌, length, vec_capacity, arith, length-append, [], ◌∷◌, None}
+use Rattle.std.proofs.Common.{◌∙◌, ◌+◌, ◌≤◌, vec_capacity, arith, length-append, [], ◌∷◌, None}
 use Rattle.btree_more_stores.proofs.FilledLemmas.{content-push_none, filled-push_none}
 use Rattle.btree_more_stores.proofs.slot_store.add_free.Goals as goal
 

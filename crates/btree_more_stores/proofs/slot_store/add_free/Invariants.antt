@@ -1,4 +1,4 @@
-use Rattle.std.proofs.Common.{◌≡◌, ◌<◌, ◌≤◌, vec_capacity, vec_len}
+use Rattle.std.proofs.Common.{vec_capacity}
 use Rattle.btree_more_stores.proofs.FilledLemmas.{Grows}
 use Rattle.btree_more_stores.proofs.slot_store.add_free.Given as goal
 

@@ -1,6 +1,4 @@
-use Rattle.std.proofs.Common.{ap, arith, ◌∙◌}
-use Rattle.std.specs.FinMap.{insert}
-use Rattle.btree_store.specs.Content.{Content, content_from}
+use Rattle.std.proofs.Common.{arith}
 use Rattle.btree_more_stores.proofs.FilledLemmas.{content-push}
 use Rattle.btree_more_stores.proofs.slot_store.SlotStoreFill.insert_under.Goals as goal
 
