@@ -1,7 +1,7 @@
 -- What is written is read again: fields, places, and the whole.
 use Rattle.std.proofs.Common.{◌≡◌, ℕ, zero, suc, ◌+◌, ◌-◌, ◌^◌, ◌<◌, ◌≤◌, Bool, true, false, cond, ltb, eqb, List, [], ◌∷◌, ◌++◌, length, get_or, take, drop, Option, Some, None, IsSome, Ok, refl, sym, ap, subst, ◌∙◌, append_assoc, arith, inl, inr}
 use Rattle.std.specs.Prelude.{IfSome, slice_get}
-use Rattle.std.specs.Int.{w64, to_be_bytes}
+use Rattle.std.specs.Int.{w64, from_be_bytes, to_be_bytes}
 use Rattle.std.specs.List.{flat_map}
 use Rattle.std.proofs.lemmas.Bool.{eqb-true, eq-eqb, le-ltb, ne_eqb}
 use Rattle.std.proofs.lemmas.List.{append-nil, get_or_append_left, get_or_past, get_or_push, take_at, drop_at, length-append}
@@ -23,12 +23,14 @@ use Rattle.btree_image.specs.Written.{AreBranchesRead, AreItemsRead, AreReadBy, 
 
 -- ---- words
 
-pub word-again : (n : ℕ) (rest : List ℕ) → n < 2 ^ 64 → word_at (word n ++ rest) ≡ Ok (n, rest)
+word_front : (front rest : List ℕ) → length front ≡ 8 → word_at (front ++ rest) ≡ Ok (from_be_bytes w64 front, rest)
 unfolding word_at
-word-again n rest lt =
-    let len = wide64.len n in
-    let long : ltb (length (to_be_bytes w64 n ++ rest)) 8 ≡ false = le-ltb _ _ (omega (arith, length-append (to_be_bytes w64 n) rest)) in
-    rw (long, take_at (to_be_bytes w64 n) rest 8 len, drop_at (to_be_bytes w64 n) rest 8 len, wide64.again n lt) refl
+word_front front rest len =
+    let long : ltb (length (front ++ rest)) 8 ≡ false = le-ltb _ _ (omega (arith, length-append front rest)) in
+    rw (long, take_at front rest 8 len, drop_at front rest 8 len) refl
+
+pub word-again : (n : ℕ) (rest : List ℕ) → n < 2 ^ 64 → word_at (word n ++ rest) ≡ Ok (n, rest)
+word-again n rest lt = word_front (word n) rest (wide64.len n) ∙ ap (λ (k : ℕ). Ok (k, rest)) (wide64.again n lt)
 
 pub this-again : (wanted : ℕ) (fault : BadImage) (rest : List ℕ) → wanted < 2 ^ 64 → this_at wanted fault (word wanted ++ rest) ≡ Ok (wanted, rest)
 unfolding this_at
@@ -92,9 +94,9 @@ module _ {K V : Type 0} (spell_key : K → List ℕ) (spell_value : V → List �
   unfolding item_at
   item-again x key value rest = rw (append_assoc (spell_key x.0) (spell_value x.1) rest, key, value) refl
 
-  pub branch-again : (x : K × V) (child : ℕ) → item_read x → child < 2 ^ 64 → IsReadBy (branch_at read_key read_value) (branch spell) (x, child)
+  pub branch-again : (x : K × V) (child : ℕ) → item_read x → IsReadBy word_at word child → IsReadBy (branch_at read_key read_value) (branch spell) (x, child)
   unfolding branch_at
-  branch-again x child h lt rest = rw (append_assoc (spell x) (word child) rest, h, word-again child rest lt) refl
+  branch-again x child h low rest = rw (append_assoc (spell x) (word child) rest, h, low rest) refl
 
   pub vacant-again : (is_last : Bool) (rest : List ℕ) → is_last ≡ false → place_at read_key read_value is_last (place spell None ++ rest) ≡ Ok (None, rest)
   unfolding place_at
@@ -115,14 +117,14 @@ module _ {K V : Type 0} (spell_key : K → List ℕ) (spell_value : V → List �
       let shape : place spell (Some (leaf parent items)) ++ rest ≡ word 1 ++ after = simp append_assoc in
       rw (shape, word-again 1 after (omega arith), leaf_read parent items rest bound some fits each) refl
 
-  internal_read : (parent : Option ℕ) (first : ℕ) (branches : List ((K × V) × ℕ)) (rest : List ℕ) → IfSome parent (λ n. n < 2 ^ 64 - 1) → first < 2 ^ 64 → 0 < length branches → length branches ≤ INTERNAL_SLOTS
+  internal_read : (parent : Option ℕ) (first : ℕ) (branches : List ((K × V) × ℕ)) (rest : List ℕ) → IfSome parent (λ n. n < 2 ^ 64 - 1) → IsReadBy word_at word first → 0 < length branches → length branches ≤ INTERNAL_SLOTS
       → AreBranchesRead spell_key spell_value read_key read_value branches
       → internal_at read_key read_value (number parent ++ (word (length branches) ++ (word first ++ (flat_map (branch spell) branches ++ rest)))) ≡ Ok (internal parent first branches, rest)
   unfolding internal_at internal_with
   internal_read parent first branches rest bound low some fits each =
-      rw (number-again parent (word (length branches) ++ (word first ++ (flat_map (branch spell) branches ++ rest))) bound, count-again INTERNAL_SLOTS (length branches) (word first ++ (flat_map (branch spell) branches ++ rest)) some fits (omega arith), word-again first (flat_map (branch spell) branches ++ rest) low, many-again (branch_at read_key read_value) (branch spell) branches rest each) refl
+      rw (number-again parent (word (length branches) ++ (word first ++ (flat_map (branch spell) branches ++ rest))) bound, count-again INTERNAL_SLOTS (length branches) (word first ++ (flat_map (branch spell) branches ++ rest)) some fits (omega arith), low (flat_map (branch spell) branches ++ rest), many-again (branch_at read_key read_value) (branch spell) branches rest each) refl
 
-  pub internal-again : (parent : Option ℕ) (first : ℕ) (branches : List ((K × V) × ℕ)) → IfSome parent (λ n. n < 2 ^ 64 - 1) → first < 2 ^ 64 → 0 < length branches → length branches ≤ INTERNAL_SLOTS
+  pub internal-again : (parent : Option ℕ) (first : ℕ) (branches : List ((K × V) × ℕ)) → IfSome parent (λ n. n < 2 ^ 64 - 1) → IsReadBy word_at word first → 0 < length branches → length branches ≤ INTERNAL_SLOTS
       → AreBranchesRead spell_key spell_value read_key read_value branches → IsPlaceRead spell_key spell_value read_key read_value (Some (internal parent first branches))
   unfolding place_at
   internal-again parent first branches bound low some fits each is_last last rest =

@@ -5,3 +5,4 @@ pub mod CountLemmas
 pub mod Put
 pub mod Whole
 pub mod StoreLemmas
+pub mod NodeLemmas

@@ -51,6 +51,10 @@ module _ {X : Type 0} (parse : Parse X) (spell : X → List ℕ) (xs : List X) w
         ],
       )
 
+-- what was appended, and what was appended then
+pub put-two : (start a b middle end : List ℕ) → middle ≡ start ++ a → end ≡ middle ++ b → end ≡ start ++ (a ++ b)
+put-two start a b middle end first then = then ∙ ap (λ (t : List ℕ). t ++ b) first ∙ append_assoc start a b
+
 module _ {X : Type 0} where
   -- the rest of a list begins with the value at its index
   pub drop-get : (xs : List X) (i : ℕ) (x : X) → slice_get xs i ≡ Some x → drop i xs ≡ x ∷ drop (i + 1) xs
@@ -71,3 +75,9 @@ module _ {X : Type 0} where
   drop-none [] i lt e = omega arith
   drop-none (y ∷ ys) zero lt e = absurd cc
   drop-none (y ∷ ys) (suc i) lt e = drop-none ys i (omega arith) e
+
+  -- an index within a list has a value
+  pub get-none : (xs : List X) (i : ℕ) → i < length xs → slice_get xs i ≡ None → ⊥
+  get-none [] i lt e = omega arith
+  get-none (y ∷ ys) zero lt e = absurd cc
+  get-none (y ∷ ys) (suc i) lt e = get-none ys i (omega arith) e

@@ -1,5 +1,5 @@
 -- Places that are read into a store.
-use Rattle.std.proofs.Common.{◌≡◌, ◌≢◌, ℕ, ◌+◌, ◌-◌, ◌<◌, ◌≤◌, List, [], ◌∷◌, ◌++◌, length, get_or, Option, Some, None, Ok, refl, sym, ap, subst, ◌∙◌, inl, inr, arith, length-append}
+use Rattle.std.proofs.Common.{◌≡◌, ◌≢◌, ℕ, ◌+◌, ◌-◌, ◌<◌, ◌≤◌, List, [], ◌∷◌, ◌++◌, length, get_or, Option, Some, None, Ok, Err, refl, sym, ap, subst, ◌∙◌, inl, inr, arith, length-append}
 use Rattle.std.specs.Prelude.{option_map}
 use Rattle.std.specs.Ordering.{nat_cmp}
 use Rattle.std.specs.FinMap.{empty, get, get-empty, insert}
@@ -11,10 +11,12 @@ use Rattle.btree_laws.specs.TreeState.{views}
 use Rattle.btree_store.specs.Content.{Content}
 use Rattle.btree_store.specs.ContentLaws.{get-insert_other, get-insert_same}
 use Rattle.btree_view.specs.View.{View}
+use Rattle.btree_image.specs.declared.fault.Stop.{Stop}
 use Rattle.btree_image.specs.Saved.{AreAt, ReadsPlaces}
+use Rattle.btree_image.specs.Stored.{with_place}
 use Rattle.btree_image.specs.Spelled.{Parse}
 use Rattle.btree_image.specs.Reading.{many}
-use Rattle.btree_image.proofs.Loop.{HasRead, begins, goes_on, is_done}
+use Rattle.btree_image.proofs.Loop.{HasRead, begins, ends, goes_on, is_done}
 
 module _ {X : Type 0} (front : List (Option X)) where
   other_place : (p : Option X) (q : ℕ) → q ≢ length front → get_or (front ++ p ∷ []) q None ≡ get_or front q None
@@ -75,6 +77,16 @@ module _ {K V : Type 0} where
             ap (option_map view_of) there ∙ before.nodes q ∙ sym (other_place before.front (Some (view_of node)) q (λ e. other (omega (arith, before.long))))
       ];
     }
+
+    -- a place, whatever it is
+    pub stored-place : (old new : Content (Node K V)) (id : ℕ) (place : Option (Node K V)) (rest after : List ℕ) → new ≡ with_place old id place → id < count → parse (count - (id + 1)) rest ≡ Ok (option_map view_of place, after)
+        → HasStored parse count start old id rest → HasStored parse count start new (id + 1) after
+    stored-place old new id None rest after is lt h before = subst (λ (m : Content (Node K V)). HasStored parse count start m (id + 1) after) (sym is) (stored-vacant old id rest after lt h before)
+    stored-place old new id (Some node) rest after is lt h before = stored-node old new id node rest after is lt h before
+
+    -- a place that is not read
+    pub stored-fault : (content : Content (Node K V)) (id : ℕ) (rest : List ℕ) (e : Stop) → id < count → parse (count - (id + 1)) rest ≡ Err e → HasStored parse count start content id rest → many parse count start ≡ Err e
+    stored-fault content id rest e lt h before = ends parse count start before.front id rest e lt h before.read
 
     pub stored-all : (content : Content (Node K V)) (id : ℕ) (rest : List ℕ) → count ≤ id → HasStored parse count start content id rest → ReadsPlaces (views content) rest (many parse count start)
     stored-all content id rest le before = record { places = before.front; is = is_done parse count start before.front id rest le before.read; nodes = before.nodes }

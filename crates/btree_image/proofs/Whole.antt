@@ -35,7 +35,7 @@ module _ {A : Type 0} (node_at : NodeMap A) where
 
   formed-sized : (root : Option ℕ) (xs : List A) → IsFormed node_at root xs → AreSized node_at
   formed-sized None xs formed id node is = let none : Some node ≡ None = sym is ∙ formed.0 id in absurd (cc)
-  formed-sized (Some r) xs formed id node is = let sized = formed.sized id node is in (grind (arith, nat_tests), sized.1)
+  formed-sized (Some r) xs formed id node is = let sized = formed.sized id node is in record { some = grind (arith, nat_tests); fits = sized.1 }
 
 module _ {K V : Type 0} (cmp : K → K → Ordering) (s : TreeState K V) (formed : IsBTree cmp s) where
   pub tree-sized : AreSized (node_map s)

@@ -6,5 +6,6 @@ pub mod Image
 pub mod Reading
 pub mod Gives
 pub mod Saved
+pub mod Stored
 pub mod SavedLaws
 pub mod Written

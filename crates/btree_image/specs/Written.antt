@@ -35,9 +35,14 @@ pub record IsPast {K V : Type 0} (s : TreeState K V) (count : ℕ) : Type 0 wher
   pub all : (id : ℕ) → IsUsed s id → id < count
   pub last : 0 < count → IsUsed s (count - 1)
 
--- each node has an item, and not more than a well formed tree allows
+-- the node has an item, and not more than a well formed tree allows
+pub record IsSizedNode {A : Type 0} (node : View A) : Type 0 where
+  pub some : 0 < size_of node
+  pub fits : size_of node ≤ most_of node
+
+-- so it is with each node
 abbrev pub AreSized : {A : Type 0} → NodeMap A → Type 0
-AreSized {A} node_at = (id : ℕ) (node : View A) → node_at id ≡ Some node → (0 < size_of node) × (size_of node ≤ most_of node)
+AreSized {A} node_at = (id : ℕ) (node : View A) → node_at id ≡ Some node → IsSizedNode node
 
 -- the places of so many numbers
 abbrev pub places_of : {A : Type 0} → NodeMap A → ℕ → List (Option (View A))

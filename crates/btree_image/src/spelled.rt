@@ -17,7 +17,8 @@ pub trait Spelled: Sized + Drop {
     /// Appends the bytes of the value.
     fn put<A: Allocator>(&self, out: &mut Vec<u8, A>) -> Result<(), AllocError>
         ensures appends { OnOk result (out.new.items ≡ out.old.items ++ spelling self.now) }
-        ensures reads_back { (rest : List ℕ) → read (spelling self.now ++ rest) ≡ Some (self.now, rest) };
+        ensures reads_back { OnOk result
+            ((rest : List ℕ) → read (spelling self.now ++ rest) ≡ Some (self.now, rest)) };
 
     /// Returns the value that bytes begin with, and the bytes after it.
     fn take(bytes: &[u8]) -> Option<(Self, &[u8])>

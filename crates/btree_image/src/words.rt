@@ -4,6 +4,7 @@ ghost use Rattle.btree_view.specs.Kept.{kept_parent};
 ghost use Rattle.btree_image.specs.Gives.{Gives};
 ghost use Rattle.btree_image.specs.Image.{number, word};
 ghost use Rattle.btree_image.specs.Reading.{count_at, number_at, this_at, value_at, word_at};
+ghost use Rattle.btree_image.specs.Written.{IsReadBy};
 
 use crate::fault::{BadImage, Stop};
 use crate::spelled::Spelled;
@@ -85,7 +86,8 @@ pub(crate) fn read_value<T: Spelled>(bytes: &[u8]) -> Result<(T, &[u8]), Stop>
 
 // Appends a word.
 pub(crate) fn put_word<A: Allocator>(out: &mut Vec<u8, A>, n: u64) -> Result<(), AllocError>
-    ensures { OnOk result (out.new.items ≡ out.old.items ++ word n) }
+    ensures appends { OnOk result (out.new.items ≡ out.old.items ++ word n) }
+    ensures is_read { IsReadBy word_at word n }
 {
     out.extend_from_slice(&n.to_be_bytes())
 }

@@ -1,13 +1,14 @@
 //! A tree as bytes.
-ghost use Rattle.std.specs.Prelude.{◌≡◌, ◌++◌, ◌<◌, ◌≤◌, ℕ, IfOk, OnOk, Some};
+ghost use Rattle.std.specs.Prelude.{◌≡◌, ◌++◌, ◌<◌, ℕ, IfOk, IsTrue, OnOk, Some, false};
 ghost use Rattle.std.specs.List.{flat_map};
 ghost use Rattle.btree_node.specs.Node.{view_of};
 ghost use Rattle.btree_laws.specs.TreeState.{IsBTree, node_map};
-ghost use Rattle.btree_view.specs.View.{branches_of, items_of, most_of, size_of};
+ghost use Rattle.btree_view.specs.View.{branches_of, items_of};
+ghost use Rattle.btree_view.specs.Edits.{is_internal};
 ghost use Rattle.btree_image.specs.Image.{branch, place};
 ghost use Rattle.btree_image.specs.Pairs.{pair_bytes};
 ghost use Rattle.btree_image.specs.Saved.{IsSavedAs};
-ghost use Rattle.btree_image.specs.Written.{AreBranchesRead, AreItemsRead, AreSized, IsItemRead, IsPast, IsPlaceRead, head_bytes, places_of};
+ghost use Rattle.btree_image.specs.Written.{AreBranchesRead, AreItemsRead, AreSized, IsItemRead, IsPast, IsPlaceRead, IsSizedNode, head_bytes, places_of};
 
 use crate::spelled::Spelled;
 use crate::sum::check_sum_of;
@@ -54,6 +55,7 @@ fn put_branches<K: Spelled, V: Spelled, A: Allocator>(
     out: &mut Vec<u8, A>,
     node: &Node<K, V>,
 ) -> Result<(), AllocError>
+    requires { IsTrue (is_internal (view_of node.now)) }
     ensures appends { OnOk result (out.new.items ≡ out.old.items
         ++ flat_map (branch (pair_bytes K.spelling V.spelling)) (branches_of (view_of node.now))) }
     ensures are_read { OnOk result (AreBranchesRead K.spelling V.spelling K.read V.read
@@ -69,31 +71,59 @@ fn put_branches<K: Spelled, V: Spelled, A: Allocator>(
     Ok(())
 }
 
-// Appends a node, with its kind.
-fn put_node<K: Spelled, V: Spelled, A: Allocator>(
+// Appends a leaf, with its kind.
+fn put_leaf<K: Spelled, V: Spelled, A: Allocator>(
     out: &mut Vec<u8, A>,
     node: &Node<K, V>,
 ) -> Result<(), AllocError>
-    requires some { 0 < size_of (view_of node.now) }
-    requires fits { size_of (view_of node.now) ≤ most_of (view_of node.now) }
+    requires kind { is_internal (view_of node.now) ≡ false }
+    requires sized { IsSizedNode (view_of node.now) }
     ensures appends { OnOk result (out.new.items ≡ out.old.items
         ++ place (pair_bytes K.spelling V.spelling) (Some (view_of node.now))) }
     ensures is_read { OnOk result (IsPlaceRead K.spelling V.spelling K.read V.read (Some (view_of node.now))) }
 {
+    put_word(out, 1)?;
+    put_number(out, node.parent())?;
+    put_word(out, node.item_count() as u64)?;
+    put_items(out, node)
+}
+
+// Appends an internal node, with its kind.
+fn put_internal<K: Spelled, V: Spelled, A: Allocator>(
+    out: &mut Vec<u8, A>,
+    node: &Node<K, V>,
+) -> Result<(), AllocError>
+    requires kind { IsTrue (is_internal (view_of node.now)) }
+    requires sized { IsSizedNode (view_of node.now) }
+    ensures appends { OnOk result (out.new.items ≡ out.old.items
+        ++ place (pair_bytes K.spelling V.spelling) (Some (view_of node.now))) }
+    ensures is_read { OnOk result (IsPlaceRead K.spelling V.spelling K.read V.read (Some (view_of node.now))) }
+{
+    put_word(out, 2)?;
+    put_number(out, node.parent())?;
+    put_word(out, node.item_count() as u64)?;
+    put_word(out, node.child_id(0) as u64)?;
+    put_branches(out, node)
+}
+
+// Appends the place with this number.
+fn put_place<K: Spelled, V: Spelled, C: NodesMut<K, V>, A: Allocator>(
+    out: &mut Vec<u8, A>,
+    tree: &RawBTree<K, V, C>,
+    id: usize,
+) -> Result<(), AllocError>
+    requires sized { AreSized (node_map tree.now) }
+    ensures appends { OnOk result (out.new.items ≡ out.old.items
+        ++ place (pair_bytes K.spelling V.spelling) (node_map tree.now id)) }
+    ensures is_read { OnOk result (IsPlaceRead K.spelling V.spelling K.read V.read (node_map tree.now id)) }
+{
+    if !tree.has_node(id) {
+        return put_word(out, 0);
+    }
+    let node = tree.node(id);
     match node {
-        Node::Leaf(_) => {
-            put_word(out, 1)?;
-            put_number(out, node.parent())?;
-            put_word(out, node.item_count() as u64)?;
-            put_items(out, node)
-        }
-        Node::Internal(_) => {
-            put_word(out, 2)?;
-            put_number(out, node.parent())?;
-            put_word(out, node.item_count() as u64)?;
-            put_word(out, node.child_id(0) as u64)?;
-            put_branches(out, node)
-        }
+        Node::Leaf(_) => put_leaf(out, node),
+        Node::Internal(_) => put_internal(out, node),
     }
 }
 
@@ -129,11 +159,7 @@ fn put_places<K: Spelled, V: Spelled, C: NodesMut<K, V>, A: Allocator>(
         IsPlaceRead K.spelling V.spelling K.read V.read (node_map tree.now id)) }
 {
     for id in 0..count {
-        if tree.has_node(id) {
-            put_node(out, tree.node(id))?;
-        } else {
-            put_word(out, 0)?;
-        }
+        put_place(out, tree, id)?;
     }
     Ok(())
 }

@@ -1,0 +1,1 @@
+use Rattle.btree_image.proofs.writing.put_place.Goals as goal
