@@ -1,25 +1,24 @@
 -- What is written is read again: fields, places, and the whole.
-use Rattle.std.proofs.Common.{◌≡◌, ℕ, zero, suc, ◌+◌, ◌-◌, ◌^◌, ◌<◌, ◌≤◌, Bool, true, false, cond, ltb, eqb, List, [], ◌∷◌, ◌++◌, length, get_or, take, drop, Option, Some, None, IsSome, Ok, refl, sym, ap, subst, ◌∙◌, append_assoc, arith, inl, inr}
+use Rattle.std.proofs.Common.{◌≡◌, ℕ, suc, ◌+◌, ◌-◌, ◌^◌, ◌<◌, ◌≤◌, Bool, true, false, ltb, eqb, List, [], ◌∷◌, ◌++◌, length, take, Option, Some, None, IsSome, Ok, refl, sym, ap, ◌∙◌, append_assoc, arith}
 use Rattle.std.specs.Prelude.{IfSome, slice_get}
-use Rattle.std.specs.Int.{w64, from_be_bytes, to_be_bytes}
+use Rattle.std.specs.Int.{w64, from_be_bytes}
 use Rattle.std.specs.List.{flat_map}
 use Rattle.std.proofs.lemmas.Bool.{eqb-true, eq-eqb, le-ltb, ne_eqb}
-use Rattle.std.proofs.lemmas.List.{append-nil, get_or_append_left, get_or_past, get_or_push, take_at, drop_at, length-append}
-use Rattle.std.proofs.lemmas.List.Concat.{flat_map-append, flat_map-cons}
+use Rattle.std.proofs.lemmas.List.{append-nil, take_at, drop_at, length-append}
+use Rattle.std.proofs.lemmas.List.Concat.{flat_map-cons}
 use Rattle.btree_item.specs.declared.TheConstants.{INTERNAL_SLOTS, LEAF_SLOTS}
-use Rattle.btree_view.specs.Kept.{node_of}
-use Rattle.btree_view.specs.View.{View, NodeMap}
+use Rattle.btree_view.specs.View.{View}
 use Rattle.btree_view.specs.View.{leaf, internal}
 use Rattle.btree_image.specs.declared.TheConstants.{MAGIC, VERSION}
 use Rattle.btree_image.specs.declared.fault.BadImage.{BadImage}
 use Rattle.btree_image.specs.declared.fault.BadImage.TheVariants.{Magic, Sum, Version}
 use Rattle.btree_image.specs.declared.head.Head.{Head}
-use Rattle.btree_image.specs.Image.{Image, branch, check_sum, number, place, word}
+use Rattle.btree_image.specs.Image.{branch, check_sum, number, place, word}
 use Rattle.btree_image.specs.NumberLaws.{wide64}
 use Rattle.btree_image.specs.Pairs.{pair_bytes}
-use Rattle.btree_image.specs.Reading.{◌>>=◌, body_at, branch_at, count_at, end_at, head_at, image_at, image_of, internal_at, internal_with, item_at, leaf_at, leaf_with, many, number_at, place_at, this_at, word_at}
+use Rattle.btree_image.specs.Reading.{body_at, branch_at, count_at, end_at, head_at, image_at, image_of, internal_at, internal_with, item_at, leaf_at, leaf_with, many, number_at, place_at, this_at, word_at}
 use Rattle.btree_image.specs.Spelled.{Parse, Read}
-use Rattle.btree_image.specs.Written.{AreBranchesRead, AreItemsRead, AreReadBy, IsItemRead, IsPlaceRead, IsReadBy, places_of}
+use Rattle.btree_image.specs.Written.{AreBranchesRead, AreItemsRead, AreReadBy, IsItemRead, IsPlaceRead, IsReadBy}
 
 -- ---- words
 

@@ -1,6 +1,6 @@
 -- The bytes of a well formed tree are read as that tree.
-use Rattle.std.proofs.Common.{◌≡◌, ℕ, zero, suc, ◌+◌, ◌-◌, ◌^◌, ◌<◌, ◌≤◌, Bool, true, false, List, [], ◌∷◌, ◌++◌, length, Option, Some, None, IsSome, refl, sym, ap, subst, ◌∙◌, append_assoc, arith, inl, inr}
-use Rattle.std.specs.Prelude.{IfSome, option_map, slice_get}
+use Rattle.std.proofs.Common.{◌≡◌, ℕ, zero, suc, ◌+◌, ◌-◌, ◌^◌, ◌<◌, true, false, List, [], ◌∷◌, ◌++◌, length, Option, Some, None, IsSome, refl, sym, ap, ◌∙◌, append_assoc, arith, inl, inr}
+use Rattle.std.specs.Prelude.{IfSome}
 use Rattle.std.specs.FinMap as map
 use Rattle.std.specs.List.{flat_map}
 use Rattle.std.specs.declared.cmp.Ordering.{Ordering}
@@ -10,14 +10,14 @@ use Rattle.std.proofs.lemmas.List.{append-nil}
 use Rattle.std.proofs.lemmas.List.Concat.{flat_map-append, flat_map-cons}
 use Rattle.btree_node.specs.Node.{view_of}
 use Rattle.btree_laws.specs.Represents.{Represents}
-use Rattle.btree_laws.specs.TreeState.{IsBTree, IsUsed, TreeState, node_map, pairs_of}
-use Rattle.btree_laws.specs.WellFormed.{IsFormed, IsRooted, IsSized}
-use Rattle.btree_view.specs.View.{NodeMap, View, most_of, size_of}
+use Rattle.btree_laws.specs.TreeState.{IsBTree, TreeState, node_map, pairs_of}
+use Rattle.btree_laws.specs.WellFormed.{IsFormed}
+use Rattle.btree_view.specs.View.{NodeMap, View}
 use Rattle.btree_image.specs.declared.head.Head.{Head}
 use Rattle.btree_image.specs.Image.{check_sum, place, word}
 use Rattle.btree_image.specs.Pairs.{pair_bytes}
 use Rattle.btree_image.specs.Reading.{image_of}
-use Rattle.btree_image.specs.Saved.{IsImageOf, IsSavedAs}
+use Rattle.btree_image.specs.Saved.{IsSavedAs}
 use Rattle.btree_image.specs.Spelled.{Read}
 use Rattle.btree_image.specs.Written.{AreSized, IsPast, IsPlaceRead, head_bytes, places_of}
 use Rattle.btree_image.proofs.Again.{ArePlacesRead, FitsHead, image-again, vacant-again}

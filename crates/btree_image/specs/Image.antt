@@ -1,7 +1,7 @@
 -- What the bytes of a tree stand for: numbered places, each with a node or none, the root's number, the length and the
 -- limit. Then their one spelling: words of eight bytes, the greatest byte first, of which the greatest stands for no
 -- number, and keys and values as they are spelled. docs/FORMAT.md draws it.
-use Rattle.std.specs.Prelude.{ℕ, ◌-◌, ◌^◌, ◌*◌, ◌%◌, List, [], ◌∷◌, ◌++◌, length, Option, Some, None, bit_xor, fold}
+use Rattle.std.specs.Prelude.{ℕ, ◌-◌, ◌^◌, ◌*◌, ◌%◌, List, ◌++◌, length, Option, Some, None, bit_xor, fold}
 use Rattle.std.specs.Int.{w64, to_be_bytes}
 use Rattle.std.specs.List.{flat_map}
 use Rattle.btree_view.specs.View.{View}

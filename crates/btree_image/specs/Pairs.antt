@@ -1,5 +1,5 @@
 -- A pair as bytes: the one value after the other.
-use Rattle.std.specs.Prelude.{List, ℕ, ◌++◌, Option, Some, None, option_map}
+use Rattle.std.specs.Prelude.{List, ℕ, ◌++◌, option_map}
 use Rattle.std.specs.Option.{option_and_then}
 use Rattle.btree_image.specs.Spelled.{Read}
 

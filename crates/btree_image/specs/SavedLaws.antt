@@ -1,6 +1,6 @@
 -- Bytes are those of one tree: what is opened is what was saved, but for the count of refusals, which is not saved.
-use Rattle.std.proofs.Common.{◌≡◌, ℕ, List, Option, Some, None, Result, Ok, refl, sym, ap, subst, ◌∙◌}
-use Rattle.std.specs.Prelude.{option_map, ◌↔◌}
+use Rattle.std.proofs.Common.{◌≡◌, ℕ, List, Option, Some, None, Ok, refl, sym, ap, subst, ◌∙◌}
+use Rattle.std.specs.Prelude.{option_map}
 use Rattle.std.specs.FinMap as map
 use Rattle.btree_item.specs.Address.{Address}
 use Rattle.btree_leaf.specs.Leaf.{Leaf as LeafOf, leaf_view}
@@ -8,7 +8,7 @@ use Rattle.btree_internal.specs.Internal.{Internal as InternalOf, internal_view}
 use Rattle.btree_node.specs.declared.node.Node.{Node}
 use Rattle.btree_node.specs.declared.node.Node.TheVariants.{Leaf, Internal}
 use Rattle.btree_node.specs.Node.{view_of}
-use Rattle.btree_laws.specs.TreeState.{IsPlaceIn, IsValidIn, Kept, TreeState, item_of, node_map, pairs_of, views}
+use Rattle.btree_laws.specs.TreeState.{IsPlaceIn, IsValidIn, TreeState, item_of, pairs_of, views}
 use Rattle.btree_store.specs.Content.{Content}
 use Rattle.btree_store.specs.ContentLaws.{same_content}
 use Rattle.btree_image.specs.Image.{Image}

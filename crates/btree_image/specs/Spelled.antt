@@ -1,5 +1,5 @@
 -- What bytes are, and what it is to read a value from the front of them.
-use Rattle.std.specs.Prelude.{ℕ, ◌<◌, List, Option, Result, Ok, Err, slice_index}
+use Rattle.std.specs.Prelude.{ℕ, ◌<◌, List, Option, Result, slice_index}
 use Rattle.btree_image.specs.declared.fault.Stop.{Stop}
 
 -- each of these numbers fits a byte

@@ -1,5 +1,5 @@
 -- What is written is read again: the words of the functions that write.
-use Rattle.std.specs.Prelude.{◌≡◌, ℕ, zero, suc, ◌+◌, ◌-◌, ◌<◌, ◌≤◌, Bool, true, List, [], ◌∷◌, ◌++◌, slice_get, Option, Some, None, Ok, IsSome, IfSome}
+use Rattle.std.specs.Prelude.{◌≡◌, ℕ, zero, suc, ◌-◌, ◌^◌, ◌<◌, ◌≤◌, Bool, true, List, [], ◌∷◌, ◌++◌, slice_get, Option, Some, Ok, IsSome, IfSome}
 use Rattle.btree_laws.specs.TreeState.{IsUsed, TreeState}
 use Rattle.btree_view.specs.View.{NodeMap, View, most_of, size_of}
 use Rattle.btree_image.specs.declared.TheConstants.{MAGIC, VERSION}
@@ -48,6 +48,11 @@ AreSized {A} node_at = (id : ℕ) (node : View A) → node_at id ≡ Some node �
 abbrev pub places_of : {A : Type 0} → NodeMap A → ℕ → List (Option (View A))
 places_of node_at zero = []
 places_of node_at (suc n) = places_of node_at n ++ node_at n ∷ []
+
+-- the length and the limit fit a word each
+pub record HasWords {K V : Type 0} (s : TreeState K V) : Type 0 where
+  pub len : s.len < 2 ^ 64
+  pub limit : s.kept.limit < 2 ^ 64
 
 -- what stands before so many places
 abbrev pub head_bytes : {K V : Type 0} → TreeState K V → (count : ℕ) → List ℕ

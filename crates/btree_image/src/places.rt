@@ -6,7 +6,6 @@ ghost use Rattle.btree_node.specs.contracts.node.Node.{the_row as node_row};
 ghost use Rattle.btree_laws.specs.TreeState.{views};
 ghost use Rattle.btree_image.specs.Reading.{image_at, places_at};
 ghost use Rattle.btree_image.specs.Saved.{IsErrorOf, IsSavedAs, ReadsPlaces};
-
 ghost use Rattle.btree_image.specs.Stored.{with_place};
 ghost use Rattle.btree_image.specs.declared.fault.ReadError.TheVariants as errors;
 
@@ -29,12 +28,15 @@ fn store_place<K: Drop, V: Drop, C: Fill<Node<K, V>>>(
     ensures refusals { OnOk result (C.refusals nodes.new ≡ C.refusals nodes.old) }
     ensures refused { IfErr result (λ e. e ≡ errors.Store) }
 {
-    let Some(node) = place else {
-        return Ok(());
-    };
-    match nodes.insert_under(id, node) {
-        Ok(()) => Ok(()),
-        Err(_node) => Err(ReadError::Store),
+    match place {
+        None => Ok(()),
+        Some(node) => match nodes.insert_under(id, node) {
+            Ok(()) => Ok(()),
+            Err(node) => {
+                drop(node);
+                Err(ReadError::Store)
+            }
+        },
     }
 }
 

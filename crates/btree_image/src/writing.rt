@@ -8,7 +8,7 @@ ghost use Rattle.btree_view.specs.Edits.{is_internal};
 ghost use Rattle.btree_image.specs.Image.{branch, place};
 ghost use Rattle.btree_image.specs.Pairs.{pair_bytes};
 ghost use Rattle.btree_image.specs.Saved.{IsSavedAs};
-ghost use Rattle.btree_image.specs.Written.{AreBranchesRead, AreItemsRead, AreSized, IsItemRead, IsPast, IsPlaceRead, IsSizedNode, head_bytes, places_of};
+ghost use Rattle.btree_image.specs.Written.{AreBranchesRead, AreItemsRead, AreSized, HasWords, IsItemRead, IsPast, IsPlaceRead, IsSizedNode, head_bytes, places_of};
 
 use crate::spelled::Spelled;
 use crate::sum::check_sum_of;
@@ -117,6 +117,7 @@ fn put_place<K: Spelled, V: Spelled, C: NodesMut<K, V>, A: Allocator>(
         ++ place (pair_bytes K.spelling V.spelling) (node_map tree.now id)) }
     ensures is_read { OnOk result (IsPlaceRead K.spelling V.spelling K.read V.read (node_map tree.now id)) }
 {
+    tree.tell_fits();
     if !tree.has_node(id) {
         return put_word(out, 0);
     }
@@ -170,7 +171,8 @@ fn put_head<K, V, C: NodesMut<K, V>, A: Allocator>(
     tree: &RawBTree<K, V, C>,
     count: usize,
 ) -> Result<(), AllocError>
-    ensures { OnOk result (out.new.items ≡ out.old.items ++ head_bytes tree.now count) }
+    ensures appends { OnOk result (out.new.items ≡ out.old.items ++ head_bytes tree.now count) }
+    ensures words { OnOk result (HasWords tree.now) }
 {
     put_word(out, MAGIC)?;
     put_word(out, VERSION)?;

@@ -1,9 +1,9 @@
-use Rattle.std.proofs.Common.{◌≡◌, ◌<◌, ◌≤◌, ◌∙◌, ◌++◌, ◌∷◌, [], Some, length, refl, ap, arith, length-append}
+use Rattle.std.proofs.Common.{◌≡◌, ◌≤◌, ◌∙◌, ◌++◌, ◌∷◌, [], Some, refl, ap, arith, length-append}
 use Rattle.std.proofs.lemmas.List.{length-map}
 use Rattle.std.proofs.lemmas.Result.{err_from_is_err_and}
 use Rattle.btree_node.specs.Node.{view_of}
 use Rattle.btree_view.specs.Edits.{pushed_right}
-use Rattle.btree_view.specs.View.{View, branches_of}
+use Rattle.btree_view.specs.View.{branches_of}
 use Rattle.btree_view.specs.View.{internal}
 use Rattle.btree_image.specs.Reading.{branch_at, internal_with}
 use Rattle.btree_image.proofs.Loop.{begins, begins_one, goes_on, ends, is_done}

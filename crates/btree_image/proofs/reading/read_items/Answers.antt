@@ -1,8 +1,8 @@
-use Rattle.std.proofs.Common.{◌≡◌, ◌<◌, ◌≤◌, ◌∙◌, ◌++◌, ◌∷◌, [], None, length, refl, ap, arith, length-append}
+use Rattle.std.proofs.Common.{◌≡◌, ◌≤◌, ◌∙◌, ◌++◌, ◌∷◌, [], None, refl, ap, arith, length-append}
 use Rattle.std.proofs.lemmas.Result.{err_from_is_err_and}
 use Rattle.btree_node.specs.Node.{view_of}
 use Rattle.btree_view.specs.Edits.{pushed_right}
-use Rattle.btree_view.specs.View.{View, items_of}
+use Rattle.btree_view.specs.View.{items_of}
 use Rattle.btree_view.specs.View.{leaf}
 use Rattle.btree_image.specs.Reading.{item_at, leaf_with}
 use Rattle.btree_image.proofs.Loop.{begins, goes_on, ends, is_done}

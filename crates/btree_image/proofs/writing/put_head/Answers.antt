@@ -1,13 +1,17 @@
-use Rattle.std.proofs.Common.{◌≡◌, ◌++◌, List, ℕ}
+use Rattle.std.proofs.Common.{◌≡◌, ◌++◌, arith}
 use Rattle.std.proofs.lemmas.Result.{on_ok_weaker}
 use Rattle.btree_image.specs.declared.TheConstants.{MAGIC, VERSION}
 use Rattle.btree_image.specs.Image.{number, word}
 use Rattle.btree_image.specs.Written.{head_bytes}
-use Rattle.btree_image.proofs.Put.{put-two}
+use Rattle.btree_image.proofs.Put.{on_ok, put-two}
 use Rattle.btree_image.proofs.writing.put_head.Goals as goal
 
-pub returns : goal.returns
-returns g c =
+pub returns-clause-words : goal.returns-clause-words
+returns-clause-words g c =
+    on_ok c.put_word-5.result (record { len = rw (← c.len.ensures) (omega (arith, c.len.type_inv)); limit = rw (← c.limit.ensures) (omega (arith, c.limit.type_inv)) })
+
+pub returns-clause-appends : goal.returns-clause-appends
+returns-clause-appends g c =
     let tree = c.args.tree.now in
     let start = c.args.out.now.items in
     let root : c.put_number.new.out.items ≡ c.put_word-2.new.out.items ++ number tree.root = rw c.root_id.ensures at c.in_ok-put_number.ensures in

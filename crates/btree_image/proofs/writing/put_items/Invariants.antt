@@ -1,6 +1,3 @@
-use Rattle.std.proofs.Common.{◌≡◌, ◌++◌, ◌<◌, ℕ, take}
-use Rattle.std.specs.Prelude.{IfSome, slice_get}
-use Rattle.std.specs.List.{flat_map}
 use Rattle.btree_node.specs.Node.{view_of}
 use Rattle.btree_view.specs.View.{items_of}
 use Rattle.btree_image.proofs.Put.{HasPut}
