@@ -28,6 +28,19 @@ module _ {K V : Type 0} (read_key : Read K) (read_value : Read V) where
     IsRefusedBy bytes (errors.Image fault at) = IsFaultAt bytes fault at
     IsRefusedBy bytes (errors.Tree fault) = (s : TreeState K V) × IsSavedAs read_key read_value s bytes × IsRawVerdict cmp s (Err fault)
 
+    -- so it is with the bytes that a reader had left, if they are known
+    pub record IsRefusedFrom (remaining : Option (List ℕ)) (e : OpenError) : Type 0 where
+      pub bytes : List ℕ
+      pub all : IfSome remaining (λ left. bytes ≡ left)
+      pub refused : IsRefusedBy bytes e
+
+    -- why a reader is not opened: it failed, or the store had no room, or its bytes have a fault
+    abbrev pub IsErrorFrom : Option (List ℕ) → OpenError → Type 0
+    IsErrorFrom remaining (errors.Read e) = Unit {0}
+    IsErrorFrom remaining errors.Store = Unit {0}
+    IsErrorFrom remaining (errors.Image fault at) = IsRefusedFrom remaining (errors.Image fault at)
+    IsErrorFrom remaining (errors.Tree fault) = IsRefusedFrom remaining (errors.Tree fault)
+
     -- if they are the bytes of a well formed tree within its limit, they are opened, unless the store has no room
     abbrev pub Opens : {T : Type 0} → List ℕ → Result T OpenError → Type 0
     Opens bytes result = (s : TreeState K V) → IsSavedAs read_key read_value s bytes → IsBTreeWithinLimit s cmp → IsOkUnless result errors.Store

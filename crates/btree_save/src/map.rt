@@ -6,7 +6,7 @@ ghost use Rattle.btree_node.specs.contracts.node.Node.{the_row as node_row};
 ghost use Rattle.btree_laws.specs.TreeState.{TreeState};
 ghost use Rattle.btree_raw.specs.Limit.{IsBTreeWithinLimit};
 ghost use Rattle.btree_image.specs.Saved.{IsSavedAs};
-ghost use Rattle.btree_save.specs.Opened.{IsOpenedFrom, IsRefusedBy, IsWrittenTo, Opens};
+ghost use Rattle.btree_save.specs.Opened.{IsErrorFrom, IsOpenedFrom, IsRefusedBy, IsWrittenTo, Opens};
 
 use crate::error::{OpenError, SaveError, of_read};
 use btree_ext::BTreeExt;
@@ -97,6 +97,7 @@ pub fn open<K: Spelled + Ord, V: Spelled, C: Fill<Node<K, V>> + Drop, A: Allocat
 ) -> Result<BTreeMap<K, V, C>, OpenError>
     requires { FitsInMemory (node_row K.row V.row) }
     ensures saved { IfOk result (IsOpenedFrom K.read V.read (R.remaining input.old)) }
+    ensures refused { IfErr result (IsErrorFrom K.read V.read K.cmp (R.remaining input.old)) }
 {
     C::note_fits();
     let nodes = C::empty(origin);
