@@ -15,19 +15,19 @@ use Rattle.btree_image.specs.Spelled.{Read}
 use Rattle.btree_save.specs.declared.error.OpenError.{OpenError}
 use Rattle.btree_save.specs.declared.error.OpenError.TheVariants as errors
 use Rattle.btree_save.specs.Errors.{error_of}
-use Rattle.btree_save.specs.Opened.{IsErrorFrom, IsRefusedBy, IsRefusedFrom, Opens}
+use Rattle.btree_save.specs.Opened.{IsErrorFrom, IsRefusedBy, IsRefusedFrom}
 
 module _ {K V : Type 0} (read_key : Read K) (read_value : Read V) (cmp : K → K → Ordering) (bytes : List ℕ) where
   pub read-refused : (error : ReadError) → IsErrorOf error (image_at read_key read_value bytes) → IsRefusedBy read_key read_value cmp bytes (error_of (length bytes) error)
   read-refused reads.Store is = tt
   read-refused (reads.Image stop) is = record { left = stop.left; first = is; place = refl }
 
-  pub read-opens : {T : Type 0} (error : ReadError) → IsErrorOf error (image_at read_key read_value bytes) → Opens read_key read_value cmp {T = T} bytes (Err (error_of (length bytes) error))
+  pub read-opens : (error : ReadError) → IsErrorOf error (image_at read_key read_value bytes) → (s : TreeState K V) → IsSavedAs read_key read_value s bytes → IsBTreeWithinLimit s cmp → error_of (length bytes) error ≡ errors.Store
   read-opens reads.Store is s saved within = refl
   read-opens (reads.Image stop) is s saved within = let both : Ok saved.image ≡ Err stop = sym saved.read ∙ is in absurd cc
 
   -- bytes of a well formed tree are no other tree's
-  pub tree-opens : {T : Type 0} (raw : TreeState K V) (fault : Fault) → IsSavedAs read_key read_value raw bytes → ¬ IsBTreeWithinLimit raw cmp → Opens read_key read_value cmp {T = T} bytes (Err (errors.Tree fault))
+  pub tree-opens : (raw : TreeState K V) (fault : Fault) → IsSavedAs read_key read_value raw bytes → ¬ IsBTreeWithinLimit raw cmp → (s : TreeState K V) → IsSavedAs read_key read_value s bytes → IsBTreeWithinLimit s cmp → errors.Tree fault ≡ errors.Store
   tree-opens raw fault opened other s saved within =
       let same = saved-once read_key read_value s raw bytes saved opened in
       absurd (other (subst (λ (t : TreeState K V). IsBTreeWithinLimit t cmp) (sym same) within))
