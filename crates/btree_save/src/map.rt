@@ -33,7 +33,6 @@ pub fn bytes_of_map<K: Spelled + Ord, V: Spelled, C: NodesMut<K, V>, A: Allocato
 }
 
 // Returns the map that bytes are those of, in a store without nodes.
-#[tactic(none)]
 fn map_in_store<K: Spelled + Ord, V: Spelled, C: Fill<Node<K, V>> + Drop>(
     nodes: C,
     bytes: &[u8],
