@@ -1,12 +1,13 @@
 -- What the bytes of a tree stand for: numbered places, each with a node or none, the root's number, the length and the
 -- limit. Then their one spelling: words of eight bytes, the greatest byte first, of which the greatest stands for no
 -- number, and keys and values as they are spelled. docs/FORMAT.md draws it.
-use Rattle.std.specs.Prelude.{ℕ, ◌-◌, ◌^◌, ◌*◌, ◌%◌, List, ◌++◌, length, Option, Some, None, bit_xor, fold}
-use Rattle.std.specs.Int.{w64, to_be_bytes}
+use Rattle.std.specs.Prelude.{ℕ, ◌-◌, ◌^◌, List, ◌++◌, length, take, Option, Some, None}
+use Rattle.std.specs.Int.{w64, from_be_bytes, to_be_bytes}
 use Rattle.std.specs.List.{flat_map}
+use Rattle.sha2.specs.Sha256.{sha256}
 use Rattle.btree_view.specs.View.{View}
 use Rattle.btree_view.specs.View.{leaf, internal}
-use Rattle.btree_image.specs.declared.TheConstants.{MAGIC, VERSION, SUM_START, SUM_FACTOR}
+use Rattle.btree_image.specs.declared.TheConstants.{MAGIC, VERSION}
 
 pub record Image (A : Type 0) : Type 0 where
   pub root : Option ℕ
@@ -21,9 +22,9 @@ abbrev pub number : Option ℕ → List ℕ
 number None = word (2 ^ 64 - 1)
 number (Some n) = word n
 
--- the check sum of bytes (FNV-1a of 64 bits)
+-- the check sum of bytes: the first word of their SHA-256
 abbrev pub check_sum : List ℕ → ℕ
-check_sum bytes = fold (λ sum byte. (bit_xor sum byte * SUM_FACTOR) % 2 ^ 64) SUM_START bytes
+check_sum bytes = from_be_bytes w64 (take 8 (sha256 bytes))
 
 module _ {A : Type 0} (spell : A → List ℕ) where
   abbrev pub branch : A × ℕ → List ℕ

@@ -22,9 +22,3 @@ pub const MAGIC: u64 = 0x6274_7265_6573_6176;
 
 /// The version of the bytes of a tree.
 pub const VERSION: u64 = 1;
-
-/// What the check sum of no bytes is.
-pub const SUM_START: u64 = 14695981039346656037;
-
-/// What each step of a check sum multiplies by.
-pub const SUM_FACTOR: u64 = 1099511628211;

@@ -2,15 +2,15 @@
 ghost use Rattle.std.specs.Prelude.{◌≡◌};
 ghost use Rattle.btree_image.specs.Image.{check_sum};
 
-use crate::{SUM_FACTOR, SUM_START};
+use sha2::{Digest, Sha256};
 
-/// Returns the check sum of bytes, FNV-1a of 64 bits. It finds what a disk or a wire does by accident, and no one who means to deceive.
+/// Returns the check sum of bytes: the first word of their SHA-256.
 pub fn check_sum_of(bytes: &[u8]) -> u64
     ensures { result ≡ check_sum bytes.now }
 {
-    let mut sum = SUM_START;
-    for byte in bytes {
-        sum = (sum ^ u64::from(*byte)).wrapping_mul(SUM_FACTOR);
-    }
-    sum
+    let digest = Sha256::digest(bytes);
+    let (front, _rest) = digest.as_slice().split_at(8);
+    u64::from_be_bytes([
+        front[0], front[1], front[2], front[3], front[4], front[5], front[6], front[7],
+    ])
 }

@@ -63,7 +63,7 @@ fn files_are_as_drawn(rt: HostRuntime) -> Result<(), Fail> {
     let mut map: SavedMap<u64, u64> = SavedMap::new(rt.alloc());
     let empty = bytes_of_words(
         rt.alloc(),
-        &[MAGIC, 1, NONE, 0, NONE, 0, 0x110b_0374_8446_a3ca],
+        &[MAGIC, 1, NONE, 0, NONE, 0, 0xc781_345f_71d7_04b0],
     )?;
     let bytes = bytes_of_map(rt.alloc(), &map)?;
     assert_eq!(rt; bytes.as_slice(), empty.as_slice());
@@ -74,7 +74,7 @@ fn files_are_as_drawn(rt: HostRuntime) -> Result<(), Fail> {
     assert_eq!(rt; bytes.as_slice(), drawn.as_slice());
     assert_eq!(rt;
         &bytes[88..],
-        [0x12, 0xd6, 0x3b, 0xe8, 0x1b, 0x9d, 0x99, 0x48].as_slice()
+        [0x67, 0x3e, 0x7b, 0x44, 0x6f, 0x75, 0xdf, 0xf4].as_slice()
     );
     Ok(())
 }
