@@ -1,6 +1,6 @@
 -- Why bytes are not opened, and that those of a map are.
 use Rattle.std.proofs.Common.{◌≡◌, ℕ, List, [], ◌++◌, length, Option, Some, None, Result, Ok, Err, refl, sym, ap, subst, ◌∙◌}
-use Rattle.std.specs.Prelude.{IfErr, IfSome, IsOk}
+use Rattle.std.specs.Prelude.{IfErr, IfOk, IfSome}
 use Rattle.std.specs.declared.cmp.Ordering.{Ordering}
 use Rattle.std.proofs.lemmas.Bool.{false≢true}
 use Rattle.btree_laws.specs.TreeState.{TreeState}
@@ -15,7 +15,7 @@ use Rattle.btree_image.specs.Spelled.{Read}
 use Rattle.btree_save.specs.declared.error.OpenError.{OpenError}
 use Rattle.btree_save.specs.declared.error.OpenError.TheVariants as errors
 use Rattle.btree_save.specs.Errors.{error_of}
-use Rattle.btree_save.specs.Opened.{IsErrorFrom, IsRefusedBy, IsRefusedFrom}
+use Rattle.btree_save.specs.Opened.{IsErrorFrom, IsOpenedFrom, IsRefusedBy, IsRefusedFrom}
 
 module _ {K V : Type 0} (read_key : Read K) (read_value : Read V) (cmp : K → K → Ordering) (bytes : List ℕ) where
   pub read-refused : (error : ReadError) → IsErrorOf error (image_at read_key read_value bytes) → IsRefusedBy read_key read_value cmp bytes (error_of (length bytes) error)
@@ -38,6 +38,14 @@ module _ {K V : Type 0} (read_key : Read K) (read_value : Read V) (cmp : K → K
   error-from remaining all errors.Store refused = tt
   error-from remaining all (errors.Image fault at) refused = record { bytes = bytes; all = all; refused = refused }
   error-from remaining all (errors.Tree fault) refused = record { bytes = bytes; all = all; refused = refused }
+
+  pub opened-from : {E : Type 0} (remaining : Option (List ℕ)) → IfSome remaining (λ left. bytes ≡ left) → (r : Result (TreeState K V) E) → IfOk r (λ s. IsSavedAs read_key read_value s bytes) → IfOk r (IsOpenedFrom read_key read_value remaining)
+  opened-from remaining all (Ok s) saved = record { bytes = bytes; all = all; saved = saved }
+  opened-from remaining all (Err e) saved = tt
+
+  pub refused-from : {T : Type 0} (remaining : Option (List ℕ)) → IfSome remaining (λ left. bytes ≡ left) → (r : Result T OpenError) → IfErr r (IsRefusedBy read_key read_value cmp bytes) → IfErr r (IsErrorFrom read_key read_value cmp remaining)
+  refused-from remaining all (Ok s) refused = tt
+  refused-from remaining all (Err e) refused = error-from remaining all e refused
 
 -- a reader that came to its end gave all that it had left
 pub all-read : (remaining : Option (List ℕ)) (start end bytes : List ℕ) → start ≡ [] → bytes ≡ end → IfSome remaining (λ xs. end ≡ start ++ xs) → IfSome remaining (λ left. bytes ≡ left)
