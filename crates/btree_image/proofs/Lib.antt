@@ -6,3 +6,5 @@ pub mod Put
 pub mod Whole
 pub mod StoreLemmas
 pub mod NodeLemmas
+pub mod Spelling
+pub mod OneSpelling
