@@ -1,4 +1,3 @@
-use Rattle.btree_image.proofs.Spelling.{image-spelled}
 use Rattle.std.proofs.Common.{arith}
 use Rattle.btree_image.proofs.Again.{word-again}
 use Rattle.btree_image.proofs.words.put_word.Goals as goal
