@@ -14,6 +14,7 @@ use btree_raw::RawBTree;
 use btree_steps::Steps;
 
 /// Returns `Ok` with the address of a key that is there, or `Err` with the address in a leaf where it would be inserted.
+#[inline(always)]
 pub fn address_of<K: Ord, V, C: NodesMut<K, V>>(
     tree: &RawBTree<K, V, C>,
     key: &K,
@@ -26,6 +27,7 @@ pub fn address_of<K: Ord, V, C: NodesMut<K, V>>(
 }
 
 /// Does the same as `address_of`, and ticks once for each comparison of keys. `Steps` takes no time and no bytes.
+#[inline(always)]
 pub fn address_of_counted<K: Ord, V, C: NodesMut<K, V>>(
     tree: &RawBTree<K, V, C>,
     key: &K,

@@ -365,6 +365,7 @@ fn child_id_among<K, V>(
 }
 
 // Returns the place of a key among the items, and ticks once for each comparison of keys.
+#[inline(always)]
 fn place<K: Ord, Q: Query<K>, V>(
     branches: &Slots<Branch<K, V>, INTERNAL_SLOTS>,
     key: &Q,
@@ -398,6 +399,7 @@ impl<K: Ord, V> InternalNode<K, V> {
     }
 
     // Returns the place of a key among the items, and ticks once for each comparison of keys.
+    #[inline(always)]
     fn find_counted<Q: Query<K>>(&self, key: &Q, steps: &mut Steps) -> Result<usize, usize>
         requires { Ascends K.cmp (items_of (view_of self.now)) }
         ensures place { result ≡ place_of Q.compare key.now (items_of (view_of self.now)) }
@@ -454,6 +456,7 @@ impl<K: Ord, V> InternalNode<K, V> {
     }
 
     /// Does the same as `offset_of`, and ticks once for each comparison of keys, at most six times.
+    #[inline(always)]
     pub fn offset_of_counted<Q: Query<K>>(
         &self,
         key: &Q,

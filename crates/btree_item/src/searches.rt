@@ -51,6 +51,7 @@ where
 
 // Does the same over all slots. The key in the middle decides which half to search. Of the comparisons that a node may take, one is left.
 #[tactic(auto, using(crate::proofs::KeyLemmas::search_halves))]
+#[inline(always)]
 fn lower_bound<T: Keyed, Q: Query<T::Key>, const N: usize>(
     slots: &Slots<T, N>,
     key: &Q,
@@ -80,6 +81,7 @@ where
 
 /// Returns the place of a key in slots whose keys ascend strictly: `Ok` if it is there, or `Err` with the number of smaller keys. It
 /// ticks once for each comparison of keys. In up to nine slots these are at most six: five by `<`, and then one by `==`.
+#[inline(always)]
 pub fn search_counted<T: Keyed, Q: Query<T::Key>, const N: usize>(
     slots: &Slots<T, N>,
     key: &Q,

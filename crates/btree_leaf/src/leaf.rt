@@ -153,6 +153,7 @@ impl<K, V> LeafNode<K, V> {
 }
 
 // Returns the place of a key among items, and ticks once for each comparison of keys.
+#[inline(always)]
 fn place_counted<K: Ord, Q: Query<K>, V>(
     items: &Slots<Item<K, V>, LEAF_SLOTS>,
     key: &Q,
@@ -240,6 +241,7 @@ impl<K: Ord, V> LeafNode<K, V> {
     }
 
     /// Does the same as `find`, and ticks once for each comparison of keys, at most six times.
+    #[inline(always)]
     pub fn find_counted<Q: Query<K>>(&self, key: &Q, steps: &mut Steps) -> Result<usize, usize>
         requires { Ascends K.cmp self.now.items }
         ensures place { result ≡ place_of Q.compare key.now self.now.items }

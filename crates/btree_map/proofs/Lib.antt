@@ -6,6 +6,7 @@ pub mod EntryLemmas
 pub mod RemovalLemmas
 pub mod ExtensionLemmas
 pub mod AscendingLemmas
+pub mod BehindLemmas
 pub mod SameEntry
 pub mod WrittenLemmas
 pub mod CursorLemmas

@@ -4,6 +4,7 @@ use Rattle.std.specs.declared.cmp.Ordering.{Ordering}
 use Rattle.std.specs.declared.cmp.Ordering.TheVariants.{Less}
 use Rattle.btree_item.specs.Address.{Address}
 use Rattle.btree_laws.specs.TreeState.{TreeState, pairs_of}
+use Rattle.btree_laws.specs.TreeAddresses.{leaf_backs_of}
 use Rattle.btree_find.specs.Navigation.{IsItemAddress}
 
 -- the address of the last pair
@@ -11,6 +12,10 @@ pub record IsLastPair {K V : Type 0} (s : TreeState K V) (a : Address) : Type 0 
   pub place : ℕ
   pub last : suc place ≡ length (pairs_of s)
   pub here : IsItemAddress s place a
+
+-- the back address in a leaf behind the last pair; nowhere in a map without pairs
+abbrev pub IsLastGap : {K V : Type 0} → TreeState K V → Address → Type 0
+IsLastGap s a = slice_get (leaf_backs_of s) (length (pairs_of s)) ≡ Some a
 
 -- the key is greater than that of the last pair, if there is one
 abbrev pub IsAboveLast : {K V : Type 0} → (K → K → Ordering) → K → List (K × V) → Type 0

@@ -6,12 +6,12 @@ ghost use Rattle.btree_node.specs.contracts.node.Node.{the_row as node_row};
 ghost use Rattle.btree_item.specs.Pairs.{found, inserted};
 ghost use Rattle.btree_laws.specs.TreeState.{pairs_of, unlimited};
 ghost use Rattle.btree_ext.specs.Insert.{IsRefusedAtGap};
-ghost use Rattle.btree_map.specs.Ascending.{GoesLast, IsLastPair};
+ghost use Rattle.btree_map.specs.Ascending.{GoesLast, IsLastGap, IsLastPair};
 ghost use Rattle.btree_map.specs.Extension.{Adds, AddsUntil, Collects, CollectsUntil, RefusesInTurn, copied_steps};
 
 use crate::BTreeMap;
 use btree_ext::BTreeExt;
-use btree_item::{Address, Refused};
+use btree_item::{Address, Offset, Refused};
 use btree_node::NodesMut;
 use std::cmp::Ordering;
 
@@ -27,6 +27,21 @@ fn is_above<K: Ord + Drop, V: Drop, C: NodesMut<K, V>>(
     match last {
         Some(at) => map.pair_at(at).0.cmp(key) == Ordering::Less,
         None => map.is_empty(),
+    }
+}
+
+// Returns the back address in a leaf behind the last pair, whose address is given. Without it, goes down to the last leaf.
+fn gap_behind<K: Ord + Drop, V: Drop, C: NodesMut<K, V>>(
+    map: &BTreeMap<K, V, C>,
+    last: &Option<Address>,
+) -> Address
+    requires { IfSome last.now (IsLastPair map.now) }
+    ensures { IsLastGap map.now result }
+{
+    map.tell_well_formed();
+    match *last {
+        Some(at) => Address::new(at.id, Offset::from(at.offset.unwrap() + 1)),
+        None => map.last_valid_address(),
     }
 }
 
@@ -52,7 +67,7 @@ pub fn insert_in_order<K: Ord + Drop, V: Drop, C: NodesMut<K, V>>(
 {
     if is_above(map, last, &key) {
         map.tell_well_formed();
-        let end = map.last_valid_address();
+        let end = gap_behind(map, &last);
         return match map.insert_absent(end, key, value) {
             Ok(at) => Ok(Some(at)),
             Err(refused) => Err(refused),
@@ -71,8 +86,8 @@ impl<K: Ord + Drop, V: Drop, C: NodesMut<K, V>> BTreeMap<K, V, C> {
     /// Inserts the pairs that `source` gives, in order, as `insert` does. Returns the first pair that is refused: those before it are in
     /// the map, and those after it are still in `source`.
     ///
-    /// From the start on, as long as each key is greater than all keys in the map, it is compared with the last one alone; each pair still
-    /// goes from the root to the last leaf. The first key that is not greater costs one comparison more than `insert`, and from there on each
+    /// From the start on, as long as each key is greater than all keys in the map, it is compared with the last one alone, and its pair goes
+    /// to the last leaf without a search. The first key that is not greater costs one comparison more than `insert`, and from there on each
     /// pair costs what `insert` costs.
     ///
     /// The contract requires that `source` ends.

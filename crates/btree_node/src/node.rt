@@ -521,6 +521,7 @@ impl<K: Drop, V: Drop> Node<K, V> {
     /// Keeps the first items of a node with one too many, as `split` does, and moves those after the median into `part`: a leaf without
     /// items, which becomes a node of the same kind under the same parent. Returns how many are kept, and the median. Each item of a leaf
     /// moves once, and no leaf is passed by value.
+    #[inline(always)]
     pub fn split_into(&mut self, part: &mut Node<K, V>) -> (usize, Item<K, V>)
         requires over { IsOverflowing (view_of self.old) }
         requires leaf { is_internal (view_of part.old) ≡ false }

@@ -172,6 +172,7 @@ impl<K, V, C: SlabMut<Node<K, V>>> NodesMut<K, V> for C {
     }
 
     // The clauses are those of the trait, in the names that the store's own bound gives to its members.
+    #[inline(always)]
     fn insert(&mut self, node: Node<K, V>) -> Result<usize, Node<K, V>>
         ensures number { IfOk result (λ id. id < usize.MAX) }
         ensures unused { IfOk result (λ id. map.get (C.content self.old) id ≡ None) }

@@ -1,5 +1,5 @@
 -- Addresses that stay while the range at another place is replaced, or an insertion is refused.
-use Rattle.btree_range_map.proofs.Common.{◌≡◌, ℕ, refl, sym, subst, nat_cmp, IsSome, Address, Cause, Store, Count, TreeState, HasPlace, IsItemAddress, IsExchanged, Span}
+use Rattle.btree_range_map.proofs.Common.{◌≡◌, ◌∙◌, ℕ, Some, refl, sym, ap, subst, same_Some, item_of, nat_cmp, IsSome, Address, Cause, Store, Count, TreeState, HasPlace, IsItemAddress, IsExchanged, Span}
 use Rattle.std.proofs.Common.{◌≢◌}
 use Rattle.std.proofs.lemmas.Cmp.{nat_cmp_total}
 use Rattle.btree_node.specs.declared.node.Node.{Node}
@@ -7,6 +7,7 @@ use Rattle.btree_store.specs.Content.{Content}
 use Rattle.btree_find.proofs.FitsLemmas.{item-occupied, occupied-item}
 use Rattle.btree_find.proofs.PlaceLemmas.{has-place, item-here}
 use Rattle.btree_raw.specs.Insertion.{IsRefused}
+use Rattle.btree_ext.specs.Exchange.{IsKeyExchanged}
 use Rattle.btree_ext.specs.InsertAt.{IsRefusedAt}
 
 -- ---- the range at an address was replaced
@@ -35,3 +36,10 @@ module _ {V : Type 0} where
     by : (cause : Cause) → IsRefused MayRefuse is.leaf.id s new cause → IsItemAddress new place b
     by Store refused = subst (λ (t : TreeState ℕ (Span V)). IsItemAddress t place b) (sym refused.0) (record { valid = here.valid; occupied = here.occupied; has = record { at = here.has.at; only = here.has.only }; item = here.item })
     by Count refused = subst (λ (t : TreeState ℕ (Span V)). IsItemAddress t place b) (sym refused.0) here
+
+-- ---- only the start of a range was replaced
+pub key-exchanged : {V : Type 0} (s new : TreeState ℕ (Span V)) (a : Address) (was is first : ℕ) (span : Span V) → item_of s a ≡ Some (first, span)
+    → IsKeyExchanged s new a nat_cmp was is → IsExchanged s new a nat_cmp (is, span)
+key-exchanged {V} s new a was is first span item e =
+    let same : e.value ≡ span = ap (λ (z : ℕ × Span V). z.1) (same_Some _ _ (sym e.had ∙ item)) in
+    subst (λ (v : Span V). IsExchanged s new a nat_cmp (is, v)) same e.exchanged

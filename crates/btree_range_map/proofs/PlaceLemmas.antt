@@ -9,6 +9,7 @@ use Rattle.btree_laws.specs.TreeState.{node_map}
 use Rattle.btree_find.specs.Answers.{IsFoundAt, IsGapAt}
 use Rattle.btree_find.specs.CallerLaws.{pair-there}
 use Rattle.btree_find.specs.Navigation.{IsItemBefore, IsNext}
+use Rattle.btree_range_map.specs.Places.{IsApart}
 use Rattle.btree_range_map.specs.Steps.{IsPlaceFor}
 use Rattle.btree_range_map.specs.Ranges.{TellsSame}
 use Rattle.btree_range_map.proofs.RunLemmas.{run-at, value-here, value-none}
@@ -153,6 +154,17 @@ module _ {V : Type 0} (eq : V → V → Bool) (tells : TellsSame eq) (x y : V) (
 
   pub told-apart : told ≡ false → x ≡ y → ⊥
   told-apart answer same = let other : told ≡ true = is ∙ (tells x y).1 same in absurd (cc)
+
+-- numbers that end before a range do not touch it
+module _ {V : Type 0} (ranges : List (ℕ × Span V)) (place : ℕ) (span : Span V) (range : ℕ × Span V) (listed : slice_get ranges place ≡ Some range) (past : span.end < range.0) where
+  same-start : (x : ℕ × Span V) → slice_get ranges place ≡ Some x → range.0 ≡ x.0
+  same-start x at = ap (λ (y : ℕ × Span V). y.0) (same_Some _ _ (sym listed ∙ at))
+
+  pub past-apart : IsApart ranges place span
+  past-apart = record {
+    starts = λ x at. omega (arith, past, same-start x at);
+    differ = λ x at end same. absurd (omega (arith, past, same-start x at, end));
+  }
 
 -- a call was refused that adds two ranges where numbers are inside one
 pub refused-two : {X Y : Type 0} (r : Result X Y) (P Q : Y → Type 0) (C : Type 0) → C → IfErr r Q → IfErr r (λ y. P y ⊎ (C × Q y))

@@ -1,6 +1,6 @@
 -- A range that is put at an address: between others, or over parts of those beside it, which are given back if it is
 -- refused.
-use Rattle.btree_range_map.proofs.Common.{◌≡◌, ◌≤◌, ◌<◌, ◌∙◌, ℕ, suc, List, length, set, slice_get, Some, refl, sym, ap, subst, arith, ◌⊎◌, inl, inr, cases_lt, cases_order, length-set, same_Some, slice_get_within, insert, nat_cmp, Address, Cause, Store, Count, TreeState, pairs_of, FitsAt, ReplacesAt, HasPlace, IsItemAddress, value-list, IsExchanged, IsValueExchanged, InsertsAt, Span, IsApart, AreRuns, IsAssigned, JoinsNone, value_at, Assigns, CanAbsorb, Overlaps, between-from}
+use Rattle.btree_range_map.proofs.Common.{◌≡◌, ◌≤◌, ◌<◌, ◌∙◌, ℕ, suc, List, length, set, slice_get, Some, refl, sym, ap, subst, arith, ◌⊎◌, inl, inr, cases_lt, cases_order, length-set, same_Some, slice_get_within, insert, nat_cmp, Address, Cause, Store, Count, TreeState, item_of, pairs_of, FitsAt, ReplacesAt, HasPlace, IsItemAddress, value-list, IsExchanged, IsValueExchanged, InsertsAt, Span, IsApart, AreRuns, IsAssigned, JoinsNone, value_at, Assigns, CanAbsorb, Overlaps, between-from}
 use Rattle.btree_node.specs.declared.node.Node.{Node}
 use Rattle.btree_store.specs.Content.{Content}
 use Rattle.btree_laws.specs.TreeState.{refused_once}
@@ -17,7 +17,7 @@ use Rattle.btree_range_map.proofs.ListLemmas.{get-set, get-set-other, set-back}
 use Rattle.btree_range_map.proofs.PlaceLemmas.{less-from}
 use Rattle.btree_range_map.proofs.RunLemmas.{run-at, value-here}
 use Rattle.btree_range_map.proofs.StepLemmas.{IsSameOutside, clear-part, left-part, shorter-runs}
-use Rattle.btree_range_map.proofs.TrimLemmas.{trim-apart, trim-back, trim-back-fits, trim-item, trim-length, trim-pairs, trim-runs, trim-same}
+use Rattle.btree_range_map.proofs.TrimLemmas.{trim-apart, trim-back, trim-back-fits, trim-item, trim-length, trim-listed, trim-pairs, trim-runs, trim-same}
 
 module _ {V : Type 0} where
   -- ---- steps before and after
@@ -204,6 +204,11 @@ module _ {V : Type 0} (s : TreeState ℕ (Span V)) (at : Address) (start : ℕ) 
 
         pub trimmed-back : ReplacesAt nat_cmp o.first late next
         trimmed-back = trim-back-fits s can.here.place span rest next o can.runs mid is late refused.leaves.pairs late-item
+
+        pub trimmed-item : item_of late next ≡ Some (span.end, rest)
+        trimmed-item =
+            late-item.item ∙ ap (λ xs. slice_get xs can.here.place) refused.leaves.pairs
+            ∙ trim-listed s can.here.place span rest next o can.runs mid is
 
         module _ (new : TreeState ℕ (Span V)) (back : IsExchanged late new next nat_cmp (o.first, rest)) where
           pub trimmed-refused : IsRefusedIn s new 1 cause

@@ -100,9 +100,9 @@ module _ {V : Type 0} where
     pub differ : rest.value ≡ span.value → ⊥
 
   -- what the range at a place does to such numbers
-  abbrev pub Meets : (s : TreeState ℕ (Span V)) (place : ℕ) (span : Span V) → Next V → Type 0
+  abbrev pub Meets : (s : TreeState ℕ (Span V)) (place : ℕ) (span : Span V) → Next → Type 0
   Meets s place span (Absorbed at end) = Absorbs s place span at end
-  Meets s place span (Overlapped at rest) = Overlaps s place span at rest
+  Meets s place span (Overlapped at) = (rest : Span V) × Overlaps s place span at rest
   Meets s place span Apart = IsApart (pairs_of s) place span
 
   -- the range at the address is inside the numbers from `start` up to `span.end`; the one before it ends at `start` or before,

@@ -2,6 +2,7 @@
 ghost use Rattle.std.specs.Prelude.{◌≡◌, ◌<◌, ℕ, IfErr, IfSome, OnErr, OnOk};
 ghost use Rattle.btree_laws.specs.TreeState.{IsOccupiedIn, pairs_of};
 ghost use Rattle.btree_find.specs.Navigation.{HasPlace, IsItemAt};
+ghost use Rattle.btree_range_map.specs.declared.span.Span.{Span};
 ghost use Rattle.btree_range_map.specs.Ranges.{AreRuns, JoinsNone, TellsSame};
 ghost use Rattle.btree_range_map.specs.Steps.{Assigns, CanAbsorb, CanPut, CanPutOver, IsInsertRefusedIn, IsPlaceFor, IsRefusedIn, KeepsBefore, Meets, Overlaps};
 
@@ -14,11 +15,11 @@ use btree_map::BTreeMap;
 use btree_node::NodesMut;
 
 // What a range does to numbers before it that are given a value.
-enum Next<V> {
+enum Next {
     // It is inside them, or has their value and meets or touches them. With it they end here.
     Absorbed(Address, u64),
     // It has another value, and goes on past their end.
-    Overlapped(Address, Span<V>),
+    Overlapped(Address),
     // It does not meet them, and where it touches them, it has another value; or there is none.
     Apart,
 }
@@ -28,7 +29,7 @@ fn meets<V: Copy + Eq, C: NodesMut<u64, Span<V>>>(
     map: &BTreeMap<u64, Span<V>, C>,
     at: Option<Address>,
     span: &Span<V>,
-) -> Next<V>
+) -> Next
     requires occupied { IfSome at (IsOccupiedIn map.now) }
     requires same { TellsSame V.eq }
     ensures { (place : ℕ) → IsItemAt map.now place at → Meets map.now place span.now result }
@@ -49,7 +50,7 @@ fn meets<V: Copy + Eq, C: NodesMut<u64, Span<V>>>(
     if next.end <= span.end {
         return Next::Absorbed(at, span.end);
     }
-    Next::Overlapped(at, *next)
+    Next::Overlapped(at)
 }
 
 // Makes the range at an address, which is inside the numbers from `start` up to `span.end`, the range of these numbers with their value. It
@@ -77,8 +78,8 @@ fn absorb<V: Copy + Eq, C: NodesMut<u64, Span<V>>>(
                 at = next;
                 end = last;
             }
-            Next::Overlapped(next, rest) => {
-                map.replace_at(next, end, rest);
+            Next::Overlapped(next) => {
+                map.replace_key_at(next, end);
                 map.replace_at(at, start, Span { end, value });
                 return;
             }
@@ -98,21 +99,20 @@ fn put_before<V: Copy + Eq, C: NodesMut<u64, Span<V>>>(
     next: Address,
     start: u64,
     span: Span<V>,
-    rest: Span<V>,
 ) -> Result<(), Refused<u64, Span<V>>>
     requires can { CanPut map.old at start span }
     requires next { (place : ℕ) → HasPlace map.old at place →
-        Overlaps map.old place span next rest }
+        (rest : Span V) × Overlaps map.old place span next rest }
     ensures assigned { OnOk result (Assigns map.old map.new start span) }
     ensures returned { IfErr result (λ r. (r.key ≡ start) × (r.value ≡ span)) }
     ensures stays { OnErr result (KeepsBefore map.old map.new at) }
     ensures cause { IfErr result (λ r. IsRefusedIn map.old map.new 1 r.cause) }
 {
-    let (first, _rest) = map.replace_at(next, span.end, rest);
+    let first = map.replace_key_at(next, span.end);
     match map.insert_at(at, Item::new(start, span)) {
         Ok(_at) => Ok(()),
         Err(refused) => {
-            map.replace_at(next, first, rest);
+            map.replace_key_at(next, first);
             Err(refused)
         }
     }
@@ -140,7 +140,7 @@ fn put<V: Copy + Eq, C: NodesMut<u64, Span<V>>>(
             absorb(map, next, start, Span { end, value });
             Ok(())
         }
-        Next::Overlapped(next, rest) => put_before(map, at, next, start, span, rest),
+        Next::Overlapped(next) => put_before(map, at, next, start, span),
         Next::Apart => match map.insert_at(at, Item::new(start, span)) {
             Ok(_at) => Ok(()),
             Err(refused) => Err(refused),

@@ -67,12 +67,12 @@ fn clear_from<V: Copy + Eq, C: NodesMut<u64, Span<V>>>(
     let mut at = at;
     while let Some(addr) = at {
         let (first, span) = map.pair_at(addr);
-        let (first, last, value) = (*first, span.end, span.value);
+        let (first, last) = (*first, span.end);
         if end <= first {
             return;
         }
         if end < last {
-            map.replace_at(addr, end, Span { end: last, value });
+            map.replace_key_at(addr, end);
             return;
         }
         at = take_range(map, addr);

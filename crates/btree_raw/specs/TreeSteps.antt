@@ -10,7 +10,7 @@ use Rattle.btree_node.specs.Node.{view_of}
 use Rattle.btree_view.specs.View.{NodeMap, children_in, size_of}
 use Rattle.btree_raw.specs.declared.moved.siblings.Siblings.{Siblings}
 use Rattle.btree_laws.specs.Moved.{first_in}
-use Rattle.btree_laws.specs.Step.{Splits}
+use Rattle.btree_laws.specs.Step.{Splits, WritesNode}
 use Rattle.btree_laws.specs.TreeState.{TreeState, Changes, node_map, pairs_of}
 use Rattle.btree_raw.specs.LastItem.{LosesItem}
 use Rattle.btree_raw.specs.NodeSteps.{RotatesSiblingsLeft, RotatesSiblingsRight}
@@ -52,6 +52,10 @@ module _ {K V : Type 0} (old new : TreeState K V) where
   -- node `id` was cut if it had an item too many, and nothing else has changed
   abbrev pub MayCutIn : (id : ℕ) (spare rest : List ℕ) → Option (Cut K V) → Type 0
   MayCutIn id spare rest cut = Changes (λ a b. MayCut a b id spare rest cut) old new
+
+  -- the right part of a node that was cut was put under this number, and nothing else has changed
+  abbrev pub PutsPart : (part : Node K V) (placed : ℕ) → Type 0
+  PutsPart part placed = Changes (λ a b. WritesNode a b placed (view_of part)) old new
 
   -- the right part of a node that was cut was placed under this number, so that the node is split
   abbrev pub PlacesPart : (part : Node K V) (spare : List ℕ) (placed : ℕ) → Type 0

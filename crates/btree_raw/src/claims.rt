@@ -36,6 +36,7 @@ pub(crate) fn empty_leaf<K: Drop, V: Drop>() -> Node<K, V>
 }
 
 /// Claims one node, as an empty leaf. Returns its number, or `None` if the store refuses it.
+#[inline(always)]
 pub fn claim_one<K: Drop, V: Drop, C: NodesMut<K, V>>(tree: &mut RawBTree<K, V, C>) -> Option<usize>
     ensures number { IfSome result (λ id. id < usize.MAX) }
     ensures unused { IfSome result (λ id. map.get tree.old.nodes id ≡ None) }

@@ -3,9 +3,9 @@ ghost use Rattle.std.specs.Prelude.{◌≡◌, ◌<◌, ◌≤◌, ◌∷◌, �
 ghost use Rattle.btree_node.specs.Node.{view_of};
 ghost use Rattle.btree_view.specs.View.{children_in, children_of};
 ghost use Rattle.btree_laws.specs.Step.{Reparents, WritesNode};
-ghost use Rattle.btree_laws.specs.TreeState.{Changes, IsUsed, KeepsRest, node_map, nodes_for_splits};
+ghost use Rattle.btree_laws.specs.TreeState.{Changes, IsUsed, KeepsRest, TreeState, node_map, nodes_for_splits};
 ghost use Rattle.btree_raw.specs.Steps.{AddsAndCuts, AddsItem, AddsSeparatorAndCuts, AreThere, CanAddItem, CanAddSeparator, CanCut, CanCutAbove, CanCutWith, CanReparent, HasParent, LeavesPart, Overflows, SetsParent};
-ghost use Rattle.btree_raw.specs.TreeSteps.{IsInsertionIndex, IsNotAdded, KeepsLeftPart, MayCutIn, PlacesPart};
+ghost use Rattle.btree_raw.specs.TreeSteps.{IsInsertionIndex, IsNotAdded, KeepsLeftPart, MayCutIn, PlacesPart, PutsPart};
 ghost use Rattle.btree_raw.specs.Insertion.{IsFull};
 
 use crate::claims::{ClaimedIds, empty_leaf, take_claim};
@@ -113,23 +113,26 @@ pub(crate) struct Cut<K, V> {
     pub(crate) right: usize,
 }
 
-// Puts the right part of a node that was cut at the last claimed number. Returns that number.
+// Prepares the right part of a node that was cut for the last claimed number: its children get it as their parent. Returns that number. The
+// caller puts the part there, so that it moves once.
 #[inline(always)]
-fn place_part<K: Drop, V: Drop, C: NodesMut<K, V>>(
+fn adopt_part<K: Drop, V: Drop, C: NodesMut<K, V>>(
     tree: &mut RawBTree<K, V, C>,
-    part: Node<K, V>,
+    part: &Node<K, V>,
     claims: &mut ClaimedIds,
 ) -> usize
-    requires left { LeavesPart (node_map tree.old) (view_of part) claims.old.items }
+    requires left { LeavesPart (node_map tree.old) (view_of part.now) claims.old.items }
     ensures last { claims.old.items ≡ claims.new.items ++ result ∷ [] }
-    ensures splits { PlacesPart tree.old tree.new part claims.old.items result }
-    ensures leaves { KeepsLeftPart tree.old tree.new part claims.old.items }
+    ensures used { IsUsed tree.new result }
+    ensures splits { (after : TreeState K V) → PutsPart tree.new after part.now result →
+        PlacesPart tree.old after part.now claims.old.items result }
+    ensures leaves { (after : TreeState K V) → PutsPart tree.new after part.now result →
+        KeepsLeftPart tree.old after part.now claims.old.items }
     ensures rest { KeepsRest tree.old tree.new }
 {
     tree.tell_fits();
     let right = take_claim(claims);
-    adopt(tree, &part, right);
-    put(tree, right, part);
+    adopt(tree, part, right);
     right
 }
 
@@ -151,7 +154,8 @@ pub(crate) fn cut_node<K: Drop, V: Drop, C: NodesMut<K, V>>(
     let parent = node.parent();
     let mut part = empty_leaf();
     let (kept, median) = node.split_into(&mut part);
-    let right = place_part(tree, part, claims);
+    let right = adopt_part(tree, &part, claims);
+    put(tree, right, part);
     Some(Cut {
         parent,
         kept,
@@ -184,7 +188,8 @@ pub(crate) fn add_and_cut<K: Drop, V: Drop, C: NodesMut<K, V>>(
     let parent = node.parent();
     let mut part = empty_leaf();
     let (kept, median) = node.split_into(&mut part);
-    let right = place_part(tree, part, claims);
+    let right = adopt_part(tree, &part, claims);
+    put(tree, right, part);
     Some(Cut {
         parent,
         kept,
@@ -219,7 +224,8 @@ pub(crate) fn insert_separator<K: Drop, V: Drop, C: NodesMut<K, V>>(
     let parent = node.parent();
     let mut part = empty_leaf();
     let (kept, median) = node.split_into(&mut part);
-    let right = place_part(tree, part, claims);
+    let right = adopt_part(tree, &part, claims);
+    put(tree, right, part);
     (
         index,
         Some(Cut {

@@ -221,6 +221,7 @@ impl<K, V, C: NodesMut<K, V>> RawBTree<K, V, C> {
     }
 
     /// Inserts a node into the store as it is.
+    #[inline(always)]
     pub(crate) fn store_node(&mut self, node: Node<K, V>) -> Result<usize, Node<K, V>>
         ensures number { IfOk result (λ id. id < usize.MAX) }
         ensures unused { IfOk result (λ id. map.get self.old.nodes id ≡ None) }

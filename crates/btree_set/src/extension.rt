@@ -66,9 +66,9 @@ impl<T: Ord + Drop, C: NodesMut<T, ()>> BTreeSet<T, C> {
     /// Inserts the elements that `source` gives, in order, as `insert` does. Returns the first one that is refused: those before it are in
     /// the set, and those after it are still in `source`.
     ///
-    /// From the start on, as long as each element is greater than all in the set, it is compared with the last one alone; each element still
-    /// goes from the root to the last leaf. The first one that is not greater costs one comparison more than `insert`, and from there on
-    /// each element costs what `insert` costs.
+    /// From the start on, as long as each element is greater than all in the set, it is compared with the last one alone, and goes to the
+    /// last leaf without a search. The first one that is not greater costs one comparison more than `insert`, and from there on each element
+    /// costs what `insert` costs.
     ///
     /// The contract requires that `source` ends.
     pub fn extend<I: Iterator<Item = T>>(&mut self, source: &mut I) -> Result<(), Refused<T, ()>>

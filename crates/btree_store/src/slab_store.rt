@@ -74,6 +74,7 @@ impl<T, A: Allocator> SlabMut<T> for SlabStore<T, A> {
     }
 
     // The clauses are those of the trait, one on the number, and one on when a value is refused.
+    #[inline(always)]
     fn insert(&mut self, value: T) -> Result<usize, T>
         ensures number { IfOk result (λ id. id < usize.MAX) }
         ensures unused { IfOk result (λ id. map.get (content_from 0 self.old.slab.slots) id ≡ None) }
@@ -87,17 +88,14 @@ impl<T, A: Allocator> SlabMut<T> for SlabStore<T, A> {
         ensures counted { OnErr result (self.new.refused.count ≡ self.old.refused.count + 1) }
         ensures full { OnErr result (HasRoomFor self.old.slab 1 → ⊥) }
     {
-        match self.slab.insert(value) {
-            Ok(id) => {
-                // For the prover: the number is below the capacity.
-                let _room = self.slab.capacity();
-                Ok(id)
-            }
-            Err(failed) => {
-                self.refused.tick();
-                Err(failed.value)
-            }
+        if self.slab.reserve(1).is_err() {
+            self.refused.tick();
+            return Err(value);
         }
+        let id = self.slab.insert_reserved(value);
+        // For the prover: the number is below the capacity.
+        let _room = self.slab.capacity();
+        Ok(id)
     }
 
     fn remove(&mut self, id: usize) -> T {

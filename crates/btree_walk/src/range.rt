@@ -69,9 +69,9 @@ fn last_left<'a, K: Ord + 'a, V: 'a, C: NodesMut<K, V> + 'a>(
 }
 
 /// An iterator over the pairs of a tree between two bounds, in the order of the keys and from both ends, seen by contracts as the list of
-/// those that are left. Each step makes one comparison, with the key at the other end, and a step inside a leaf fetches no node. The second
-/// step from the back searches once more, for the place of the first. From that step on, a step from the back to another leaf may fetch all
-/// leaves before it that have the same parent, at most seven, even if they lie before the range.
+/// those that are left. Each step makes one comparison, with the key at the other end, or two where the ends have met. A step inside a leaf
+/// fetches no node. The second step from the back searches once more, for the place of the first. From that step on, a step from the back to
+/// another leaf may fetch all leaves before it that have the same parent, at most seven, even if they lie before the range.
 #[derive(Drop)]
 pub struct Range<'a, K: Ord, V, C: NodesMut<K, V>> {
     tree: &'a Tree<K, V, C>,
@@ -149,11 +149,12 @@ impl<'a, K: Ord, V, C: NodesMut<K, V>> Iterator for Range<'a, K, V, C> {
         };
         C::tell_fits();
         self.tree.tell_well_formed();
+        if first.0 < last.0 {
+            self.first = next_pair(self.tree, &mut self.run, &mut self.ancestors);
+            return Some(first);
+        }
         match first.0.cmp(last.0) {
-            Ordering::Less => {
-                self.first = next_pair(self.tree, &mut self.run, &mut self.ancestors);
-                Some(first)
-            }
+            Ordering::Less => unreachable!(),
             Ordering::Equal => {
                 if !self.is_left {
                     return None;

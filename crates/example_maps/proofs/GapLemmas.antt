@@ -1,5 +1,5 @@
 -- Runs of free numbers, and the gaps that are left in a search for one. `IsFree` says which numbers are free.
-use Rattle.std.proofs.Common.{◌≡◌, ◌≤◌, ◌<◌, ◌+◌, ◌-◌, ℕ, suc, true, ◌⊎◌, inl, inr, List, [], ◌∷◌, subst, arith}
+use Rattle.std.proofs.Common.{◌≡◌, ◌≤◌, ◌<◌, ◌+◌, ◌-◌, ℕ, suc, true, ◌⊎◌, inl, inr, List, [], ◌∷◌, arith}
 use Rattle.std.proofs.lemmas.Bool.{cases_lt, or_cases, or_left, or_right}
 use Rattle.btree_slab.specs.RangeMapGaps.{AreApartFrom, in_gaps}
 use Rattle.btree_slab.specs.RangeMapLaws.{between-from, between-high, between-low}

@@ -11,7 +11,7 @@ pub insert_absent-requires-clause-gap : goal.insert_absent-requires-clause-gap
 insert_absent-requires-clause-gap g c =
     ap (slice_get (leaf_backs_of c.args.map.now))
     (above-end g.K.Ord.cmp g.met.K.Ord.total c.args.key c.args.map.now c.tell_well_formed.ensures.well_formed.ascends (c.if-is_above.ensures.0 refl).0)
-    ∙ c.last_valid_address-end.ensures.at.listed
+    ∙ c.gap_behind-end.ensures
 
 pub returns-in-Ok-clause-inserted : goal.returns-in-Ok-clause-inserted
 returns-in-Ok-clause-inserted g c =

@@ -1,5 +1,5 @@
 use Rattle.btree_range_map.proofs.Common.{◌∙◌, Option, subst, sym, arith, Address, IsItemAt}
-use Rattle.btree_range_map.proofs.PlaceLemmas.{told-apart, told-same}
+use Rattle.btree_range_map.proofs.PlaceLemmas.{past-apart, told-apart, told-same}
 use Rattle.btree_range_map.proofs.assign.meets.Goals as goal
 
 pub returns-then-first-span : goal.returns-then-first-span
@@ -35,11 +35,17 @@ returns g c place is =
     let item = (subst (λ (o : Option Address). IsItemAt c.args.map.now place o) c.in-Some.is is).here in
     let starts = c.if-span-first.false in
     let past = c.if-next-span.false in
-    record {
+    (c.pair_at.result.1.now, record {
       first = c.pair_at.result.0.now;
       item = item;
       listed = sym item.item ∙ c.pair_at.ensures;
       starts = omega (arith, starts);
       past = omega (arith, past);
       differ = told-apart _ c.requires.same _ _ _ c.eq.ensures c.if-eq.false;
-    }
+    })
+
+pub returns-then-eq : goal.returns-then-eq
+returns-then-eq g c place is =
+    let item = (subst (λ (o : Option Address). IsItemAt c.args.map.now place o) c.in-Some.is is).here in
+    let past = c.if-first-span.false in
+    past-apart _ place c.args.span.now (c.pair_at.result.0.now, c.pair_at.result.1.now) (sym item.item ∙ c.pair_at.ensures) (omega (arith, past))

@@ -22,8 +22,9 @@ returns-in-Overlapped-clause-joins_none g c =
     let s = c.args.map.now in
     let here = c.requires.can.here in
     let next = normal-place s c.args.at here.place here.has c.normalize-next.result c.normalize-next.ensures in
+    let over = c.in-Overlapped.ensures here.place next in
     on-error c.put_before.result (JoinsNone (pairs_of s) c.args.start c.args.span.end c.args.span.value)
-    (put-none-over s c.args.at c.args.start c.args.span c.requires.can c.in-Overlapped.next c.in-Overlapped.rest (c.in-Overlapped.ensures here.place next))
+    (put-none-over s c.args.at c.args.start c.args.span c.requires.can c.in-Overlapped.next over.0 over.1)
 
 pub returns-in-Ok-clause-assigned : goal.returns-in-Ok-clause-assigned
 returns-in-Ok-clause-assigned g c =

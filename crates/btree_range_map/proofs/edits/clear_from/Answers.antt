@@ -1,5 +1,6 @@
 use Rattle.btree_range_map.proofs.Common.{refl, subst, arith}
 use Rattle.btree_range_map.proofs.ClearLemmas.{IsClearing, clearing-fits, clearing-last, clearing-more, clearing-none, clearing-past, clearing-shorter}
+use Rattle.btree_range_map.proofs.KeptLemmas.{key-exchanged}
 use Rattle.btree_range_map.proofs.edits.clear_from.Goals as goal
 
 pub returns-then-end-first : goal.returns-then-end-first
@@ -7,8 +8,8 @@ returns-then-end-first g c =
     let l = subst (λ at. IsClearing c.args.map.now c.loop-at.map at c.args.start c.args.end) c.in-Some.is c.loop-at.invariant in
     clearing-past c.args.map.now c.loop-at.map c.in-Some.addr c.args.start c.args.end l _ c.pair_at.ensures (omega (arith, c.if-end-first.true))
 
-pub replace_at-requires : goal.replace_at-requires
-replace_at-requires g c =
+pub replace_key_at-requires : goal.replace_key_at-requires
+replace_key_at-requires g c =
     let l = subst (λ at. IsClearing c.args.map.now c.loop-at.map at c.args.start c.args.end) c.in-Some.is c.loop-at.invariant in
     clearing-fits c.args.map.now c.loop-at.map c.in-Some.addr c.args.start c.args.end l _ c.pair_at.ensures
     (omega (arith, c.if-end-first.false)) c.requires.some (omega (arith, c.if-end-last.true))
@@ -17,7 +18,8 @@ pub returns-then-end-last : goal.returns-then-end-last
 returns-then-end-last g c =
     let l = subst (λ at. IsClearing c.args.map.now c.loop-at.map at c.args.start c.args.end) c.in-Some.is c.loop-at.invariant in
     clearing-last c.args.map.now c.loop-at.map c.in-Some.addr c.args.start c.args.end l _ c.pair_at.ensures
-    (omega (arith, c.if-end-first.false)) c.requires.some (omega (arith, c.if-end-last.true)) c.replace_at.new.self _ refl c.replace_at.ensures.exchanged
+    (omega (arith, c.if-end-first.false)) c.requires.some (omega (arith, c.if-end-last.true)) c.replace_key_at.new.self _ refl
+    (key-exchanged c.loop-at.map c.replace_key_at.new.self c.in-Some.addr _ _ _ _ c.pair_at.ensures c.replace_key_at.ensures)
 
 pub loop-at-smaller : goal.loop-at-smaller
 loop-at-smaller g c =

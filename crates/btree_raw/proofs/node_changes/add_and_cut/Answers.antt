@@ -31,8 +31,8 @@ split_into-kept-requires g c = (
   (is-over (view_of c.insert.new.self) c.if-not-is_overflowing.ensures, (ap (λ n. is_internal (view_of n)) c.empty_leaf-part.ensures, ap (λ n. items_of (view_of n)) c.empty_leaf-part.ensures)),
 )
 
-pub place_part-right-requires : goal.place_part-right-requires
-place_part-right-requires g c = (
+pub adopt_part-right-requires : goal.adopt_part-right-requires
+adopt_part-right-requires g c = (
   c.tell_fits.ensures,
   part-after c.args.tree.now.nodes c.args.id c.insert.new.self c.split_into-kept.new.self c.split_into-kept.result.0 c.split_into-kept.result.1
       (view_of c.split_into-kept.new.part) c.split_into-kept.ensures.left c.split_into-kept.ensures.parts c.args.claims.now.items
@@ -60,11 +60,11 @@ returns g c =
       adds = put;
       cuts = record {
         nodes =
-            cuts-node (node_map (with_node c.args.tree.now c.args.id c.insert.new.self)) (node_map c.place_part-right.new.tree) c.args.id c.args.claims.now.items
-            c.place_part-right.new.claims.items (view_of c.insert.new.self) (here-after c.args.tree.now.nodes c.args.id c.insert.new.self) over
-            c.parent-parent.result c.parent-parent.ensures.value c.split_into-kept.result.0 c.split_into-kept.result.1 c.place_part-right.result c.place_part-right.ensures.last
-            (c.place_part-right.ensures.splits left) (c.place_part-right.ensures.leaves left);
-        rest = then (record { rest = refl }) c.place_part-right.ensures.rest;
+            cuts-node (node_map (with_node c.args.tree.now c.args.id c.insert.new.self)) (node_map c.put.new.tree) c.args.id c.args.claims.now.items
+            c.adopt_part-right.new.claims.items (view_of c.insert.new.self) (here-after c.args.tree.now.nodes c.args.id c.insert.new.self) over
+            c.parent-parent.result c.parent-parent.ensures.value c.split_into-kept.result.0 c.split_into-kept.result.1 c.adopt_part-right.result c.adopt_part-right.ensures.last
+            (c.adopt_part-right.ensures.splits c.put.new.tree c.put.ensures left) (c.adopt_part-right.ensures.leaves c.put.new.tree c.put.ensures left);
+        rest = then (record { rest = refl }) (then c.adopt_part-right.ensures.rest c.put.ensures.rest);
       };
     }
 
@@ -76,3 +76,6 @@ parent-parent-requires g c = c.tell_fits.ensures
 
 pub empty_leaf-part-requires : goal.empty_leaf-part-requires
 empty_leaf-part-requires g c = c.tell_fits.ensures
+
+pub put-requires : goal.put-requires
+put-requires g c = (c.tell_fits.ensures, c.adopt_part-right.ensures.used)

@@ -1,4 +1,5 @@
 use Rattle.btree_walk.proofs.Common.{◌∷◌, ◌∙◌, ap, arith, length, sym, pairs_of, rises, pair_now}
+use Rattle.btree_item.proofs.KeyLemmas.{Less-from_is_lt, is_lt-from_partial}
 use Rattle.btree_walk.specs.Rows.{remaining_after}
 use Rattle.btree_walk.proofs.RangeLemmas.{meets-after, meets-front, none-left, passes-front, steps-front}
 use Rattle.btree_walk.proofs.range.RangeIterator.next.Goals as goal
@@ -12,25 +13,25 @@ invariant_of-self g c =
     let s = steps-front g.met.K.Ord.total (pairs_of it.tree.now) (rises g.K.Ord.cmp (pairs_of it.tree.now) c.tell_well_formed.ensures.well_formed.ascends)
     (pair_now it.first) (pair_now it.last) (remaining_after it.tree.now it.run it.ancestors) c.self.invariant.2 (c.in-Some.first.0.now, c.in-Some.first.1.now) (c.in-Some-last.last.0.now, c.in-Some-last.last.1.now)
     (ap pair_now c.in-Some.is) (ap pair_now c.in-Some-last.is) it.is_left
-    (let compared = c.cmp.ensures in let is = c.in-Less.is in cc) (pair_now c.next_pair-self-inside.result) (remaining_after it.tree.now c.next_pair-self-inside.new.run c.next_pair-self-inside.new.ancestors) c.next_pair-self-inside.ensures.first in
+    (Less-from_is_lt _ (is_lt-from_partial g.met.K.Ord.matches_partial_cmp c.in-Some.first.0.now c.in-Some-last.last.0.now c.lt.result c.lt.ensures ∙ c.if-lt.true)) (pair_now c.next_pair-self-inside.result) (remaining_after it.tree.now c.next_pair-self-inside.new.run c.next_pair-self-inside.new.ancestors) c.next_pair-self-inside.ensures.first in
     (c.self.invariant.0, c.next_pair-self-inside.ensures.above, s.1, c.self.invariant.3, c.self.invariant.4)
 
-pub returns-in-Less-clause-steps : goal.returns-in-Less-clause-steps
-returns-in-Less-clause-steps g c =
+pub returns-then-lt-clause-steps : goal.returns-then-lt-clause-steps
+returns-then-lt-clause-steps g c =
     let it = c.self.inside in
     let s = steps-front g.met.K.Ord.total (pairs_of it.tree.now) (rises g.K.Ord.cmp (pairs_of it.tree.now) c.tell_well_formed.ensures.well_formed.ascends)
     (pair_now it.first) (pair_now it.last) (remaining_after it.tree.now it.run it.ancestors) c.self.invariant.2 (c.in-Some.first.0.now, c.in-Some.first.1.now) (c.in-Some-last.last.0.now, c.in-Some-last.last.1.now)
     (ap pair_now c.in-Some.is) (ap pair_now c.in-Some-last.is) it.is_left
-    (let compared = c.cmp.ensures in let is = c.in-Less.is in cc) (pair_now c.next_pair-self-inside.result) (remaining_after it.tree.now c.next_pair-self-inside.new.run c.next_pair-self-inside.new.ancestors) c.next_pair-self-inside.ensures.first in
+    (Less-from_is_lt _ (is_lt-from_partial g.met.K.Ord.matches_partial_cmp c.in-Some.first.0.now c.in-Some-last.last.0.now c.lt.result c.lt.ensures ∙ c.if-lt.true)) (pair_now c.next_pair-self-inside.result) (remaining_after it.tree.now c.next_pair-self-inside.new.run c.next_pair-self-inside.new.ancestors) c.next_pair-self-inside.ensures.first in
     rw (← c.self.view_is) s.0
 
-pub returns-in-Less-clause-goes : goal.returns-in-Less-clause-goes
-returns-in-Less-clause-goes g c =
+pub returns-then-lt-clause-goes : goal.returns-then-lt-clause-goes
+returns-then-lt-clause-goes g c =
     let it = c.self.inside in
     let s = steps-front g.met.K.Ord.total (pairs_of it.tree.now) (rises g.K.Ord.cmp (pairs_of it.tree.now) c.tell_well_formed.ensures.well_formed.ascends)
     (pair_now it.first) (pair_now it.last) (remaining_after it.tree.now it.run it.ancestors) c.self.invariant.2 (c.in-Some.first.0.now, c.in-Some.first.1.now) (c.in-Some-last.last.0.now, c.in-Some-last.last.1.now)
     (ap pair_now c.in-Some.is) (ap pair_now c.in-Some-last.is) it.is_left
-    (let compared = c.cmp.ensures in let is = c.in-Less.is in cc) (pair_now c.next_pair-self-inside.result) (remaining_after it.tree.now c.next_pair-self-inside.new.run c.next_pair-self-inside.new.ancestors) c.next_pair-self-inside.ensures.first in
+    (Less-from_is_lt _ (is_lt-from_partial g.met.K.Ord.matches_partial_cmp c.in-Some.first.0.now c.in-Some-last.last.0.now c.lt.result c.lt.ensures ∙ c.if-lt.true)) (pair_now c.next_pair-self-inside.result) (remaining_after it.tree.now c.next_pair-self-inside.new.run c.next_pair-self-inside.new.ancestors) c.next_pair-self-inside.ensures.first in
     let fewer = ap length s.0 in
     rw (← c.self.view_is) record { on = λ finite. (tt, tt, omega arith); keeps = tt; rests = λ finite. tt }
 

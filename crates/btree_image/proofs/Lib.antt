@@ -1,0 +1,10 @@
+pub mod Loop
+pub mod Again
+pub mod PlaceLemmas
+pub mod CountLemmas
+pub mod Put
+pub mod Whole
+pub mod StoreLemmas
+pub mod NodeLemmas
+pub mod Spelling
+pub mod OneSpelling

@@ -1,0 +1,12 @@
+use Rattle.btree_node.specs.Node.{view_of}
+use Rattle.btree_view.specs.View.{branches_of}
+use Rattle.btree_image.proofs.Put.{HasPut}
+use Rattle.btree_image.specs.Image.{branch}
+use Rattle.btree_image.specs.Pairs.{pair_bytes}
+use Rattle.btree_image.specs.Reading.{branch_at}
+use Rattle.btree_image.proofs.writing.put_branches.Given as goal
+
+abbrev pub invariant-loop-i : goal.invariant-loop-i
+invariant-loop-i g l =
+    HasPut (branch_at g.K.Spelled.read g.V.Spelled.read) (branch (pair_bytes g.K.Spelled.spelling g.V.Spelled.spelling))
+    (branches_of (view_of l.node)) l.initial.out.items l.out.items l.i

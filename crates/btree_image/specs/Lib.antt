@@ -1,0 +1,11 @@
+pub mod Spelled
+pub mod Numbers
+pub mod Pairs
+pub mod NumberLaws
+pub mod Image
+pub mod Reading
+pub mod Gives
+pub mod Saved
+pub mod Stored
+pub mod SavedLaws
+pub mod Written

@@ -1,0 +1,15 @@
+-- What bytes are, and what it is to read a value from the front of them.
+use Rattle.std.specs.Prelude.{ℕ, ◌<◌, List, Option, Result, slice_index}
+use Rattle.btree_image.specs.declared.fault.Stop.{Stop}
+
+-- each of these numbers fits a byte
+abbrev pub AreBytes : List ℕ → Type 0
+AreBytes bytes = (i : ℕ) → slice_index bytes i < 256
+
+-- the value that bytes begin with and the bytes after it, if there is one
+abbrev pub Read : Type 0 → Type 0
+Read X = List ℕ → Option (X × List ℕ)
+
+-- the same with the first fault, and how many bytes are left there
+abbrev pub Parse : Type 0 → Type 0
+Parse X = List ℕ → Result (X × List ℕ) Stop

@@ -1,0 +1,9 @@
+-- A store with the node of one place more.
+use Rattle.std.specs.Prelude.{ℕ, Option, Some, None}
+use Rattle.std.specs.FinMap as map
+use Rattle.btree_store.specs.Content.{Content}
+
+-- with this value under the number, if there is one
+abbrev pub with_place : {T : Type 0} → Content T → (id : ℕ) → Option T → Content T
+with_place content id None = content
+with_place content id (Some value) = map.insert content id value

@@ -1,0 +1,7 @@
+use Rattle.btree_save.proofs.map.bytes_of_map.Goals as goal
+
+pub bytes_of-requires : goal.bytes_of-requires
+bytes_of-requires g c = rw c.as_raw.ensures.value c.as_raw.ensures.well_formed
+
+pub returns : goal.returns
+returns g c = rw c.as_raw.ensures.value at c.bytes_of.ensures

@@ -1,0 +1,19 @@
+use Rattle.btree_save.proofs.map.map_of_bytes.Goals as goal
+
+pub note_fits-requires : goal.note_fits-requires
+note_fits-requires g c = c.requires
+
+pub map_in_store-requires-clause-fits : goal.map_in_store-requires-clause-fits
+map_in_store-requires-clause-fits g c = c.requires
+
+pub map_in_store-requires-clause-empty : goal.map_in_store-requires-clause-empty
+map_in_store-requires-clause-empty g c = c.empty.ensures.content
+
+pub returns-clause-saved : goal.returns-clause-saved
+returns-clause-saved g c = c.map_in_store.ensures.saved
+
+pub returns-clause-refused : goal.returns-clause-refused
+returns-clause-refused g c = c.map_in_store.ensures.refused
+
+pub returns-clause-opens : goal.returns-clause-opens
+returns-clause-opens g c = c.map_in_store.ensures.opens

@@ -1,0 +1,21 @@
+use Rattle.btree_save.proofs.OpenedLemmas.{all-read, opened-from, refused-from}
+use Rattle.btree_save.proofs.map.open.Goals as goal
+
+pub note_fits-requires : goal.note_fits-requires
+note_fits-requires g c = c.requires
+
+pub map_in_store-requires-clause-fits : goal.map_in_store-requires-clause-fits
+map_in_store-requires-clause-fits g c = c.requires
+
+pub map_in_store-requires-clause-empty : goal.map_in_store-requires-clause-empty
+map_in_store-requires-clause-empty g c = c.empty-nodes.ensures.content
+
+pub returns-in-Ok-clause-saved : goal.returns-in-Ok-clause-saved
+returns-in-Ok-clause-saved g c =
+    opened-from g.K.Spelled.read g.V.Spelled.read g.K.Ord.cmp c.deref.result.now (g.R.Read.remaining c.args.input.now)
+    (all-read (g.R.Read.remaining c.args.input.now) c.new-bytes.result.items c.read_to_end.new.buf.items c.deref.result.now c.new-bytes.ensures.items c.deref.ensures.value c.in-Ok.ensures.bytes) c.map_in_store.result c.map_in_store.ensures.saved
+
+pub returns-in-Ok-clause-refused : goal.returns-in-Ok-clause-refused
+returns-in-Ok-clause-refused g c =
+    refused-from g.K.Spelled.read g.V.Spelled.read g.K.Ord.cmp c.deref.result.now (g.R.Read.remaining c.args.input.now)
+    (all-read (g.R.Read.remaining c.args.input.now) c.new-bytes.result.items c.read_to_end.new.buf.items c.deref.result.now c.new-bytes.ensures.items c.deref.ensures.value c.in-Ok.ensures.bytes) c.map_in_store.result c.map_in_store.ensures.refused

@@ -1,0 +1,58 @@
+-- What `open` promises, beside `IsSavedAs` of `btree_image`: the bytes say that this is the tree.
+use Rattle.std.specs.Prelude.{◌≡◌, ◌-◌, ℕ, IfSome, IsOkUnless, List, length, Option, Result, Err}
+use Rattle.std.specs.Io.KnownBytes.{Appends}
+use Rattle.std.specs.declared.cmp.Ordering.{Ordering}
+use Rattle.btree_laws.specs.TreeState.{TreeState}
+use Rattle.btree_raw.specs.Limit.{IsBTreeWithinLimit}
+use Rattle.btree_valid.specs.Faults.{IsRawVerdict}
+use Rattle.btree_image.specs.declared.fault.BadImage.{BadImage}
+use Rattle.btree_image.specs.Reading.{image_at}
+use Rattle.btree_image.specs.Saved.{IsSavedAs}
+use Rattle.btree_image.specs.Spelled.{Read}
+use Rattle.btree_save.specs.declared.error.OpenError.{OpenError}
+use Rattle.btree_save.specs.declared.error.OpenError.TheVariants as errors
+
+module _ {K V : Type 0} (read_key : Read K) (read_value : Read V) where
+  -- the first fault of the bytes, and the place of the field that has it
+  pub record IsFaultAt (bytes : List ℕ) (fault : BadImage) (at : ℕ) : Type 0 where
+    pub left : ℕ
+    pub first : image_at read_key read_value bytes ≡ Err (record { fault = fault; left = left })
+    pub place : at ≡ length bytes - left
+
+  module _ (cmp : K → K → Ordering) where
+    -- why bytes are not opened: the store had no room; or the first fault of the image; or the bytes are those of a tree, and this
+    -- is its verdict. No reader is asked.
+    abbrev pub IsRefusedBy : List ℕ → OpenError → Type 0
+    IsRefusedBy bytes (errors.Read e) = ⊥
+    IsRefusedBy bytes errors.Store = Unit {0}
+    IsRefusedBy bytes (errors.Image fault at) = IsFaultAt bytes fault at
+    IsRefusedBy bytes (errors.Tree fault) = (s : TreeState K V) × IsSavedAs read_key read_value s bytes × IsRawVerdict cmp s (Err fault)
+
+    -- so it is with the bytes that a reader had left, if they are known
+    pub record IsRefusedFrom (remaining : Option (List ℕ)) (e : OpenError) : Type 0 where
+      pub bytes : List ℕ
+      pub all : IfSome remaining (λ left. bytes ≡ left)
+      pub refused : IsRefusedBy bytes e
+
+    -- why a reader is not opened: it failed, or the store had no room, or its bytes have a fault
+    abbrev pub IsErrorFrom : Option (List ℕ) → OpenError → Type 0
+    IsErrorFrom remaining (errors.Read e) = Unit {0}
+    IsErrorFrom remaining errors.Store = Unit {0}
+    IsErrorFrom remaining (errors.Image fault at) = IsRefusedFrom remaining (errors.Image fault at)
+    IsErrorFrom remaining (errors.Tree fault) = IsRefusedFrom remaining (errors.Tree fault)
+
+    -- if they are the bytes of a well formed tree within its limit, they are opened, unless the store has no room
+    abbrev pub Opens : {T : Type 0} → List ℕ → Result T OpenError → Type 0
+    Opens bytes result = (s : TreeState K V) → IsSavedAs read_key read_value s bytes → IsBTreeWithinLimit s cmp → IsOkUnless result errors.Store
+
+  -- the bytes that the reader had left, if they are known, are those of the tree
+  pub record IsOpenedFrom (remaining : Option (List ℕ)) (s : TreeState K V) : Type 0 where
+    pub bytes : List ℕ
+    pub all : IfSome remaining (λ left. bytes ≡ left)
+    pub saved : IsSavedAs read_key read_value s bytes
+
+  -- the bytes that the writer got are those of the tree
+  pub record IsWrittenTo (before after : Option (List ℕ)) (s : TreeState K V) : Type 0 where
+    pub bytes : List ℕ
+    pub appended : Appends before after bytes
+    pub saved : IsSavedAs read_key read_value s bytes
