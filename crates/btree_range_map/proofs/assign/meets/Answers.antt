@@ -34,15 +34,17 @@ pub returns : goal.returns
 returns g c place is =
     let item = (subst (λ (o : Option Address). IsItemAt c.args.map.now place o) c.in-Some.is is).here in
     let starts = c.if-span-first.false in
-    let past = c.if-next-span.false in
-    (c.pair_at.result.1.now, record {
-      first = c.pair_at.result.0.now;
-      item = item;
-      listed = sym item.item ∙ c.pair_at.ensures;
-      starts = omega (arith, starts);
-      past = omega (arith, past);
-      differ = told-apart _ c.requires.same _ _ _ c.eq.ensures c.if-eq.false;
-    })
+    let past = c.if-next-span.false in (
+      c.pair_at.result.1.now,
+      record {
+        first = c.pair_at.result.0.now;
+        item = item;
+        listed = sym item.item ∙ c.pair_at.ensures;
+        starts = omega (arith, starts);
+        past = omega (arith, past);
+        differ = told-apart _ c.requires.same _ _ _ c.eq.ensures c.if-eq.false;
+      },
+    )
 
 pub returns-then-eq : goal.returns-then-eq
 returns-then-eq g c place is =
