@@ -8,3 +8,4 @@ pub mod StoreLemmas
 pub mod NodeLemmas
 pub mod Spelling
 pub mod OneSpelling
+pub mod WiderLemmas

@@ -7,9 +7,9 @@ use Rattle.btree_view.specs.View.{View}
 use Rattle.btree_image.specs.Image.{Image, spelling}
 use Rattle.btree_image.specs.Pairs.{pair_bytes}
 use Rattle.btree_image.specs.Reading.{◌>>=◌, body_at, end_at, head_at, image_at, image_of, internal_at, leaf_at, many, node_at, place_at, places_at, word_at}
-use Rattle.btree_image.specs.Saved.{IsImageOf, IsSavedAs}
-use Rattle.btree_image.specs.Spelled.{AreBytes, Parse, Read}
-use Rattle.btree_image.proofs.Spelling.{Takes, image-spelled, ok_is, parts}
+use Rattle.btree_image.specs.Saved.{AreOnlyBytesOf, IsImageOf}
+use Rattle.btree_image.specs.Spelled.{Parse, Read, Takes}
+use Rattle.btree_image.proofs.Spelling.{image-spelled, ok_is, parts}
 
 module _ {X : Type 0} where
   -- the last of these has a value
@@ -101,9 +101,8 @@ module _ {K V : Type 0} (read_key : Read K) (read_value : Read V) where
       λ n. record { root = root n; len = len n; limit = limit n; places = places n }
 
   module _ (spell_key : K → List ℕ) (spell_value : V → List ℕ) (key_takes : Takes spell_key read_key) (value_takes : Takes spell_value read_value) where
-    -- the bytes of a tree are the only ones that say that it is this tree
-    pub one-spelling : (s : TreeState K V) (bytes other : List ℕ) → AreBytes bytes → AreBytes other → IsSavedAs read_key read_value s bytes → IsSavedAs read_key read_value s other → bytes ≡ other
-    one-spelling s bytes other fits other_fits saved again =
-        let same : saved.image ≡ again.image = images_once s saved.image again.image saved.of again.of (image_full bytes saved.image saved.read) (image_full other again.image again.read) in
-        image-spelled spell_key spell_value read_key read_value key_takes value_takes bytes saved.image fits saved.read ∙ ap (spelling (pair_bytes spell_key spell_value)) same
-        ∙ sym (image-spelled spell_key spell_value read_key read_value key_takes value_takes other again.image other_fits again.read)
+    -- the spelling of a tree's image is all that says that it is this tree
+    pub one-spelling : (s : TreeState K V) (i : Image (K × V)) → image_at read_key read_value (spelling (pair_bytes spell_key spell_value) i) ≡ Ok i → IsImageOf s i → AreOnlyBytesOf read_key read_value s (spelling (pair_bytes spell_key spell_value) i)
+    one-spelling s i read of other fits again =
+        let same : again.image ≡ i = images_once s again.image i again.of of (image_full other again.image again.read) (image_full (spelling (pair_bytes spell_key spell_value) i) i read) in
+        image-spelled spell_key spell_value read_key read_value key_takes value_takes other again.image fits again.read ∙ ap (spelling (pair_bytes spell_key spell_value)) same

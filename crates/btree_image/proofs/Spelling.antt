@@ -18,7 +18,7 @@ use Rattle.btree_image.specs.Image.{Image, body, branch, check_sum, number, plac
 use Rattle.btree_image.specs.NumberLaws.{AreBytes-rest, AreBytes-take, wide64}
 use Rattle.btree_image.specs.Pairs.{pair_bytes}
 use Rattle.btree_image.specs.Reading.{◌>>=◌, body_at, branch_at, count_at, end_at, found, head_at, image_at, image_of, internal_at, internal_with, item_at, leaf_at, leaf_with, many, node_at, number_at, place_at, places_at, this_at, value_at, word_at}
-use Rattle.btree_image.specs.Spelled.{AreBytes, Parse, Read}
+use Rattle.btree_image.specs.Spelled.{AreBytes, Parse, Read, Takes}
 use Rattle.btree_image.proofs.Again.{head_text}
 
 -- what is read is spelled so
@@ -105,10 +105,6 @@ count-spelled most bytes rest n fits e =
 found_ok : {X : Type 0} (bytes : List ℕ) (o : Option (X × List ℕ)) (y : X × List ℕ) → found bytes o ≡ Ok y → o ≡ Some y
 found_ok bytes None y e = absurd cc
 found_ok bytes (Some x) y e = ap Some (ok_is x y e)
-
--- the law `takes` of a type
-abbrev pub Takes : {X : Type 0} → (X → List ℕ) → Read X → Type 0
-Takes {X} spell read = (bytes rest : List ℕ) (x : X) → AreBytes bytes → read bytes ≡ Some (x, rest) → bytes ≡ spell x ++ rest
 
 value-spelled : {X : Type 0} (spell : X → List ℕ) (read : Read X) → Takes spell read → IsSpelledBy spell (value_at read)
 value-spelled spell read takes bytes rest x fits e = takes bytes rest x fits (found_ok bytes (read bytes) (x, rest) e)

@@ -1,5 +1,5 @@
 -- The bytes of a well formed tree are read as that tree.
-use Rattle.std.proofs.Common.{◌≡◌, ℕ, zero, suc, ◌+◌, ◌-◌, ◌^◌, ◌<◌, true, false, List, [], ◌∷◌, ◌++◌, length, Option, Some, None, IsSome, refl, sym, ap, ◌∙◌, append_assoc, arith, inl, inr}
+use Rattle.std.proofs.Common.{◌≡◌, ℕ, zero, suc, ◌+◌, ◌-◌, ◌^◌, ◌<◌, true, false, List, [], ◌∷◌, ◌++◌, length, Option, Some, None, IsSome, Ok, refl, sym, ap, ◌∙◌, append_assoc, arith, inl, inr}
 use Rattle.std.specs.Prelude.{IfSome}
 use Rattle.std.specs.FinMap as map
 use Rattle.std.specs.List.{flat_map}
@@ -14,10 +14,10 @@ use Rattle.btree_laws.specs.TreeState.{IsBTree, TreeState, node_map, pairs_of}
 use Rattle.btree_laws.specs.WellFormed.{IsFormed}
 use Rattle.btree_view.specs.View.{NodeMap, View}
 use Rattle.btree_image.specs.declared.head.Head.{Head}
-use Rattle.btree_image.specs.Image.{check_sum, place, word}
+use Rattle.btree_image.specs.Image.{Image, body, check_sum, place, word}
 use Rattle.btree_image.specs.Pairs.{pair_bytes}
-use Rattle.btree_image.specs.Reading.{image_of}
-use Rattle.btree_image.specs.Saved.{IsSavedAs}
+use Rattle.btree_image.specs.Reading.{image_at, image_of}
+use Rattle.btree_image.specs.Saved.{IsImageOf}
 use Rattle.btree_image.specs.Spelled.{Read}
 use Rattle.btree_image.specs.Written.{AreSized, IsPast, IsPlaceRead, head_bytes, places_of}
 use Rattle.btree_image.proofs.Again.{ArePlacesRead, FitsHead, image-again, vacant-again}
@@ -49,33 +49,46 @@ module _ {K V : Type 0} (cmp : K → K → Ordering) (s : TreeState K V) (formed
     abbrev spell : K × V → List ℕ
     spell = pair_bytes spell_key spell_value
 
-    pub tree-saved : (count : ℕ) → IsPast s count → count < 2 ^ 64 → s.len < 2 ^ 64 → s.kept.limit < 2 ^ 64
+    -- the image of the tree with so many places
+    abbrev pub tree_head : ℕ → Head
+    tree_head count = record { root = s.root; len = s.len; limit = s.kept.limit; count = count }
+
+    abbrev pub tree_image : ℕ → Image (K × V)
+    tree_image count = image_of (tree_head count) (places_of (node_map s) count)
+
+    pub tree-of : (count : ℕ) → IsPast s count → IsImageOf s (tree_image count)
+    tree-of count past =
+        let all : (id : ℕ) → IsSome (node_map s id) → id < count = λ id used. past.all id (used-of view_of (map.get s.nodes id) used) in
+        record { root = refl; len = refl; limit = refl; nodes = are-at (node_map s) count all }
+
+    pub tree-read : (count : ℕ) → IsPast s count → count < 2 ^ 64 → s.len < 2 ^ 64 → s.kept.limit < 2 ^ 64
         → ((id : ℕ) → id < count → IsPlaceRead spell_key spell_value read_key read_value (node_map s id))
         → (body : List ℕ) → body ≡ head_bytes s count ++ flat_map (place spell) (places_of (node_map s) count) → check_sum body < 2 ^ 64
-        → IsSavedAs read_key read_value s (body ++ word (check_sum body))
-    tree-saved count past lt len limit each body is sum =
-        let head : Head = record { root = s.root; len = s.len; limit = s.kept.limit; count = count } in
+        → image_at read_key read_value (body ++ word (check_sum body)) ≡ Ok (tree_image count)
+    tree-read count past lt len limit each body is sum =
         let all : (id : ℕ) → IsSome (node_map s id) → id < count = λ id used. past.all id (used-of view_of (map.get s.nodes id) used) in
-        let fits : FitsHead head = record {
+        let fits : FitsHead (tree_head count) = record {
           root = root_bound count all lt s.root (formed-root (node_map s) s.root (pairs_of s) formed.formed);
           len = len;
           limit = limit;
           count = lt;
         } in
         let ps : List (Option (View (K × V))) = places_of (node_map s) count in
-        let long : length ps ≡ count = length-places (node_map s) count in
         let places : ArePlacesRead spell_key spell_value read_key read_value ps = record {
           each = place-each (node_map s) (IsPlaceRead spell_key spell_value read_key read_value) count each;
           last = λ k e.
+              let long : length ps ≡ count = length-places (node_map s) count in
               let low : k < count = omega arith in
               let end : k ≡ count - 1 = omega arith in
               rw (place-get (node_map s) count k low, end) (used-map view_of (map.get s.nodes (count - 1)) (past.last (omega arith)));
         } in
-        record {
-          image = image_of head ps;
-          read = image-again spell_key spell_value read_key read_value head ps fits long places body is sum;
-          of = record { root = refl; len = refl; limit = refl; nodes = are-at (node_map s) count all };
-        }
+        image-again spell_key spell_value read_key read_value (tree_head count) ps fits (length-places (node_map s) count) places body is sum
+
+    -- what is written is the spelling of that image
+    pub tree-text : (count : ℕ) (text : List ℕ) → text ≡ head_bytes s count ++ flat_map (place spell) (places_of (node_map s) count) → text ≡ body spell (tree_image count)
+    tree-text count text is =
+        let long : count ≡ length (places_of (node_map s) count) = sym (length-places (node_map s) count) in
+        is ∙ ap (λ (n : ℕ). head_bytes s n ++ flat_map (place spell) (places_of (node_map s) count)) long
 
 module _ {K V : Type 0} (spell_key : K → List ℕ) (spell_value : V → List ℕ) (read_key : Read K) (read_value : Read V) where
   -- a vacant place is read

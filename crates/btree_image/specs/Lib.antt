@@ -2,6 +2,10 @@ pub mod Spelled
 pub mod Numbers
 pub mod Pairs
 pub mod NumberLaws
+pub mod Mapped
+pub mod MappedLaws
+pub mod Integers
+pub mod IntegerLaws
 pub mod Image
 pub mod Reading
 pub mod Gives

@@ -6,7 +6,7 @@ use Rattle.std.specs.Int.{Width, w16, w32, w64, byte_len, from_be_bytes, to_be_b
 use Rattle.std.proofs.lemmas.Bool.{cases_lt, ltb-false, le-ltb}
 use Rattle.std.proofs.lemmas.List.{take_at, drop_at, take-append-drop, length-append, length-take, get_or-append-add, get_or-drop, get_or-take, get_or_past}
 use Rattle.std.proofs.lemmas.Nat.{be_bytes_2, be_bytes_4, be_bytes_8, from_be_bytes-to_be_bytes_2, from_be_bytes-to_be_bytes_4, from_be_bytes-to_be_bytes_8}
-use Rattle.btree_image.specs.Numbers.{bool_bytes, bool_read, byte_bytes, byte_read, number_bytes, number_read}
+use Rattle.btree_image.specs.Numbers.{bool_bytes, bool_read, byte_bytes, byte_read, number_bytes, number_read, unit_bytes, unit_read}
 use Rattle.btree_image.specs.Pairs.{pair_bytes, pair_read}
 use Rattle.btree_image.specs.Spelled.{AreBytes, Read}
 
@@ -29,17 +29,36 @@ pub record IsWide (w : Width) (limit : ℕ) : Type 0 where
   pub len : (n : ℕ) → length (to_be_bytes w n) ≡ byte_len w
   pub back : (bytes : List ℕ) → length bytes ≡ byte_len w → AreBytes bytes → to_be_bytes w (from_be_bytes w bytes) ≡ bytes
   pub again : (n : ℕ) → n < limit → from_be_bytes w (to_be_bytes w n) ≡ n
+  pub below : (bytes : List ℕ) → AreBytes bytes → from_be_bytes w bytes < limit
 
-wide16 : IsWide w16 (2 ^ 16)
-wide16 = record { len = λ n. refl; back = λ bytes len fits. be_bytes_2 bytes _ len fits refl; again = λ n lt. from_be_bytes-to_be_bytes_2 n lt }
+below16 : (bytes : List ℕ) → AreBytes bytes → from_be_bytes w16 bytes < 2 ^ 16
+below16 bytes fits = let b0 = fits 0 in let b1 = fits 1 in omega arith
 
-wide32 : IsWide w32 (2 ^ 32)
-wide32 = record { len = λ n. refl; back = λ bytes len fits. be_bytes_4 bytes _ len fits refl; again = λ n lt. from_be_bytes-to_be_bytes_4 n lt }
+below32 : (bytes : List ℕ) → AreBytes bytes → from_be_bytes w32 bytes < 2 ^ 32
+below32 bytes fits = let b0 = fits 0 in let b1 = fits 1 in let b2 = fits 2 in let b3 = fits 3 in omega arith
+
+below64 : (bytes : List ℕ) → AreBytes bytes → from_be_bytes w64 bytes < 2 ^ 64
+below64 bytes fits =
+    let b0 = fits 0 in
+    let b1 = fits 1 in
+    let b2 = fits 2 in
+    let b3 = fits 3 in
+    let b4 = fits 4 in
+    let b5 = fits 5 in
+    let b6 = fits 6 in
+    let b7 = fits 7 in
+    omega arith
+
+pub wide16 : IsWide w16 (2 ^ 16)
+wide16 = record { len = λ n. refl; back = λ bytes len fits. be_bytes_2 bytes _ len fits refl; again = λ n lt. from_be_bytes-to_be_bytes_2 n lt; below = below16 }
+
+pub wide32 : IsWide w32 (2 ^ 32)
+wide32 = record { len = λ n. refl; back = λ bytes len fits. be_bytes_4 bytes _ len fits refl; again = λ n lt. from_be_bytes-to_be_bytes_4 n lt; below = below32 }
 
 pub wide64 : IsWide w64 (2 ^ 64)
-wide64 = record { len = λ n. refl; back = λ bytes len fits. be_bytes_8 bytes _ len fits refl; again = λ n lt. from_be_bytes-to_be_bytes_8 n lt }
+wide64 = record { len = λ n. refl; back = λ bytes len fits. be_bytes_8 bytes _ len fits refl; again = λ n lt. from_be_bytes-to_be_bytes_8 n lt; below = below64 }
 
-some_is : {X : Type 0} (x y : X) → Some x ≡ Some y → x ≡ y
+pub some_is : {X : Type 0} (x y : X) → Some x ≡ Some y → x ≡ y
 some_is x y e = cc
 
 found_is : {X : Type 0} (b : Bool) (x y : X) → cond b None (Some x) ≡ Some y → (b ≡ false) × (x ≡ y)
@@ -55,6 +74,14 @@ number-takes w limit wide bytes rest n fits e =
     let rest-is : drop (byte_len w) bytes ≡ rest = ap (λ (p : ℕ × List ℕ). p.1) g.1 in
     let front : to_be_bytes w n ≡ take (byte_len w) bytes = rw (← n-is) (wide.back (take (byte_len w) bytes) (omega (arith, length-take (byte_len w) bytes)) (AreBytes-take (byte_len w) bytes fits)) in
     rw (front, ← rest-is) (sym (take-append-drop (byte_len w) bytes))
+
+-- what is read is below the limit
+pub number-below : (w : Width) (limit : ℕ) → IsWide w limit → (bytes rest : List ℕ) (n : ℕ) → AreBytes bytes → number_read w bytes ≡ Some (n, rest) → n < limit
+unfolding number_read
+number-below w limit wide bytes rest n fits e =
+    let g = found_is (ltb (length bytes) (byte_len w)) (from_be_bytes w (take (byte_len w) bytes), drop (byte_len w) bytes) (n, rest) e in
+    let n-is : from_be_bytes w (take (byte_len w) bytes) ≡ n = ap (λ (p : ℕ × List ℕ). p.0) g.1 in
+    rw (← n-is) (wide.below (take (byte_len w) bytes) (AreBytes-take (byte_len w) bytes fits))
 
 number-again : (w : Width) (limit : ℕ) → IsWide w limit → (n : ℕ) (rest : List ℕ) → n < limit → number_read w (number_bytes w n ++ rest) ≡ Some (n, rest)
 unfolding number_read
@@ -102,6 +129,14 @@ unfolding bool_read
 bool-again false rest = refl
 bool-again true rest = refl
 
+pub unit-takes : (bytes rest : List ℕ) (x : Unit {0}) → AreBytes bytes → unit_read bytes ≡ Some (x, rest) → bytes ≡ unit_bytes x ++ rest
+unfolding unit_read
+unit-takes bytes rest x fits e = ap (λ (y : Unit {0} × List ℕ). y.1) (some_is (tt, bytes) (x, rest) e)
+
+pub unit-again : (x : Unit {0}) (rest : List ℕ) → unit_read (unit_bytes x ++ rest) ≡ Some (x, rest)
+unfolding unit_read
+unit-again x rest = refl
+
 module _ {A B : Type 0} (spell_first : A → List ℕ) (spell_second : B → List ℕ) (read_first : Read A) (read_second : Read B) where
   module _ (first : (bytes rest : List ℕ) (x : A) → AreBytes bytes → read_first bytes ≡ Some (x, rest) → bytes ≡ spell_first x ++ rest)
       (second : (bytes rest : List ℕ) (x : B) → AreBytes bytes → read_second bytes ≡ Some (x, rest) → bytes ≡ spell_second x ++ rest) where
@@ -123,10 +158,30 @@ module _ {A B : Type 0} (spell_first : A → List ℕ) (spell_second : B → Lis
     unfolding pair_read
     pair-takes bytes rest x fits e = first_is bytes rest x fits (read_first bytes) refl e
 
+  module _ (first : (bytes rest : List ℕ) (x : A) → AreBytes bytes → read_first bytes ≡ Some (x, rest) → bytes ≡ spell_first x ++ rest) (P : A → Type 0) (Q : B → Type 0)
+      (holds_first : (bytes rest : List ℕ) (x : A) → AreBytes bytes → read_first bytes ≡ Some (x, rest) → P x) (holds_second : (bytes rest : List ℕ) (x : B) → AreBytes bytes → read_second bytes ≡ Some (x, rest) → Q x) where
+    second_below : (rest : List ℕ) (a : A) (after : List ℕ) (x : A × B) → P a → AreBytes after → (read : Option (B × List ℕ)) → read_second after ≡ read
+        → option_map {U = (A × B) × List ℕ} (λ s. ((a, s.0), s.1)) read ≡ Some (x, rest) → P x.0 × Q x.1
+    second_below rest a after x p fits None h e = absurd cc
+    second_below rest a after x p fits (Some s) h e =
+        subst (λ (y : (A × B) × List ℕ). P y.0.0 × Q y.0.1) (some_is ((a, s.0), s.1) (x, rest) e) (p, holds_second after s.1 s.0 fits h)
+
+    first_below : (bytes rest : List ℕ) (x : A × B) → AreBytes bytes → (read : Option (A × List ℕ)) → read_first bytes ≡ read
+        → option_and_then {U = (A × B) × List ℕ} (λ f. option_map {U = (A × B) × List ℕ} (λ s. ((f.0, s.0), s.1)) (read_second f.1)) read ≡ Some (x, rest) → P x.0 × Q x.1
+    first_below bytes rest x fits None h e = absurd cc
+    first_below bytes rest x fits (Some f) h e =
+        let after : AreBytes f.1 = AreBytes-rest (spell_first f.0) f.1 (subst AreBytes (first bytes f.1 f.0 fits h) fits) in
+        second_below rest f.0 f.1 x (holds_first bytes f.1 f.0 fits h) after (read_second f.1) refl e
+
+    -- what holds of each value that is read holds in pairs
+    pub pair-below : (bytes rest : List ℕ) (x : A × B) → AreBytes bytes → pair_read read_first read_second bytes ≡ Some (x, rest) → P x.0 × Q x.1
+    unfolding pair_read
+    pair-below bytes rest x fits e = first_below bytes rest x fits (read_first bytes) refl e
+
   pub pair-again : (x : A × B) → ((rest : List ℕ) → read_first (spell_first x.0 ++ rest) ≡ Some (x.0, rest)) → ((rest : List ℕ) → read_second (spell_second x.1 ++ rest) ≡ Some (x.1, rest))
       → (rest : List ℕ) → pair_read read_first read_second (pair_bytes spell_first spell_second x ++ rest) ≡ Some (x, rest)
   unfolding pair_read
   pair-again x first second rest = rw (append_assoc (spell_first x.0) (spell_second x.1) rest, first, second) refl
 
 -- what was written is read
-pub ruleset again = (byte-again, u16-again, u32-again, u64-again, bool-again, pair-again)
+pub ruleset again = (unit-again, byte-again, u16-again, u32-again, u64-again, bool-again, pair-again)

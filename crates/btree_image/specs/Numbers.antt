@@ -26,3 +26,10 @@ bool_read [] = None
 bool_read (zero ∷ rest) = Some (false, rest)
 bool_read (suc zero ∷ rest) = Some (true, rest)
 bool_read (suc (suc n) ∷ rest) = None
+
+-- nothing has no bytes
+abbrev pub unit_bytes : Unit {0} → List ℕ
+unit_bytes x = []
+
+unfoldable pub unit_read : Read (Unit {0})
+unit_read bytes = Some (tt, bytes)

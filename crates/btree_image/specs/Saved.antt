@@ -7,7 +7,7 @@ use Rattle.btree_image.specs.declared.fault.ReadError.{ReadError}
 use Rattle.btree_image.specs.declared.fault.ReadError.TheVariants as errors
 use Rattle.btree_image.specs.Image.{Image}
 use Rattle.btree_image.specs.Reading.{image_at}
-use Rattle.btree_image.specs.Spelled.{Read}
+use Rattle.btree_image.specs.Spelled.{AreBytes, Read}
 
 -- the nodes at these places, under their numbers, and no others
 abbrev pub AreAt : {A : Type 0} → NodeMap A → List (Option (View A)) → Type 0
@@ -25,6 +25,10 @@ pub record IsSavedAs {K V : Type 0} (read_key : Read K) (read_value : Read V) (s
   pub image : Image (K × V)
   pub read : image_at read_key read_value bytes ≡ Ok image
   pub of : IsImageOf s image
+
+-- these are the only bytes that say so
+abbrev pub AreOnlyBytesOf : {K V : Type 0} → Read K → Read V → TreeState K V → List ℕ → Type 0
+AreOnlyBytesOf read_key read_value s bytes = (other : List ℕ) → AreBytes other → IsSavedAs read_key read_value s other → other ≡ bytes
 
 -- these places were read, the nodes are at them, and these bytes are left
 pub record ReadsPlaces {A : Type 0} (node_at : NodeMap A) (rest : List ℕ) (read : Result (List (Option (View A)) × List ℕ) Stop) : Type 0 where

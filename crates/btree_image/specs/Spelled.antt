@@ -1,5 +1,5 @@
 -- What bytes are, and what it is to read a value from the front of them.
-use Rattle.std.specs.Prelude.{ℕ, ◌<◌, List, Option, Result, slice_index}
+use Rattle.std.specs.Prelude.{◌≡◌, ℕ, ◌<◌, List, ◌++◌, Option, Some, Result, slice_index}
 use Rattle.btree_image.specs.declared.fault.Stop.{Stop}
 
 -- each of these numbers fits a byte
@@ -10,6 +10,10 @@ AreBytes bytes = (i : ℕ) → slice_index bytes i < 256
 abbrev pub Read : Type 0 → Type 0
 Read X = List ℕ → Option (X × List ℕ)
 
--- the same with the first fault, and how many bytes are left there
+-- a value that is read has the bytes that it was read from
+abbrev pub Takes : {X : Type 0} → (X → List ℕ) → Read X → Type 0
+Takes {X} spell read = (bytes rest : List ℕ) (x : X) → AreBytes bytes → read bytes ≡ Some (x, rest) → bytes ≡ spell x ++ rest
+
+-- a reading that says the first fault, and how many bytes are left there
 abbrev pub Parse : Type 0 → Type 0
 Parse X = List ℕ → Result (X × List ℕ) Stop

@@ -3,9 +3,11 @@
 
 mod fault;
 mod head;
+mod more;
 mod numbers;
 mod places;
 mod reading;
+mod signed;
 mod spelled;
 mod sum;
 mod words;

@@ -1,9 +1,9 @@
-//! Numbers, booleans and pairs as bytes.
+//! Numbers, booleans, pairs and nothing as bytes.
 #![tactic(auto, using(crate::specs::NumberLaws::again))]
 
 ghost use Rattle.std.specs.Prelude.{◌≡◌, ◌++◌, OnOk, Some, option_map};
-ghost use Rattle.btree_image.specs.NumberLaws.{bool-takes, byte-takes, pair-takes, u16-takes, u32-takes, u64-takes};
-ghost use Rattle.btree_image.specs.Numbers.{bool_bytes, bool_read, byte_bytes, byte_read, number_bytes, number_read};
+ghost use Rattle.btree_image.specs.NumberLaws.{bool-takes, byte-takes, pair-takes, u16-takes, u32-takes, u64-takes, unit-takes};
+ghost use Rattle.btree_image.specs.Numbers.{bool_bytes, bool_read, byte_bytes, byte_read, number_bytes, number_read, unit_bytes, unit_read};
 ghost use Rattle.btree_image.specs.Pairs.{pair_bytes, pair_read};
 ghost use Rattle.std.specs.Int.{w16, w32, w64};
 
@@ -99,6 +99,24 @@ impl Spelled for u64 {
     }
 
     ghost takes = { u64-takes };
+}
+
+impl Spelled for () {
+    ghost spelling = { unit_bytes };
+
+    ghost read = { unit_read };
+
+    #[tactic(auto, unfolding(crate::specs::Numbers::unit_read))]
+    fn put<A: Allocator>(&self, _out: &mut Vec<u8, A>) -> Result<(), AllocError> {
+        Ok(())
+    }
+
+    #[tactic(auto, unfolding(crate::specs::Numbers::unit_read))]
+    fn take(bytes: &[u8]) -> Option<((), &[u8])> {
+        Some(((), bytes))
+    }
+
+    ghost takes = { unit-takes };
 }
 
 impl Spelled for bool {

@@ -7,7 +7,7 @@ ghost use Rattle.btree_view.specs.View.{branches_of, items_of};
 ghost use Rattle.btree_view.specs.Edits.{is_internal};
 ghost use Rattle.btree_image.specs.Image.{branch, place};
 ghost use Rattle.btree_image.specs.Pairs.{pair_bytes};
-ghost use Rattle.btree_image.specs.Saved.{IsSavedAs};
+ghost use Rattle.btree_image.specs.Saved.{AreOnlyBytesOf, IsSavedAs};
 ghost use Rattle.btree_image.specs.Written.{AreBranchesRead, AreItemsRead, AreSized, HasWords, IsItemRead, IsPast, IsPlaceRead, IsSizedNode, head_bytes, places_of};
 
 use crate::spelled::Spelled;
@@ -182,7 +182,7 @@ fn put_head<K, V, C: NodesMut<K, V>, A: Allocator>(
     put_word(out, count as u64)
 }
 
-/// Returns the bytes of a well formed tree.
+/// Returns the bytes of a well formed tree. No other bytes are read as that tree.
 ///
 /// It reads each node once, and asks for each number up to the greatest that is used.
 pub fn bytes_of<K: Spelled + Ord, V: Spelled, C: NodesMut<K, V>, A: Allocator>(
@@ -190,7 +190,8 @@ pub fn bytes_of<K: Spelled + Ord, V: Spelled, C: NodesMut<K, V>, A: Allocator>(
     tree: &RawBTree<K, V, C>,
 ) -> Result<Vec<u8, A>, AllocError>
     requires { IsBTree K.cmp tree.now }
-    ensures { IfOk result (λ bytes. IsSavedAs K.read V.read tree.now bytes.items) }
+    ensures saved { IfOk result (λ bytes. IsSavedAs K.read V.read tree.now bytes.items) }
+    ensures only { IfOk result (λ bytes. AreOnlyBytesOf K.read V.read tree.now bytes.items) }
 {
     let count = count_places(tree);
     let mut out = Vec::new(alloc);

@@ -2,6 +2,9 @@
 //! the program with status 1.
 #![tactic(auto)]
 
+mod part;
+
+use crate::part::Part;
 use anyhow::{Context, Result, bail};
 use btree_ext::{BTreeExt, BTreeExtMut};
 use btree_save::{SavedMap, open, save};
@@ -9,18 +12,25 @@ use std::alloc::Global;
 use std::fs;
 use std::rt::Files;
 
-type Stock = SavedMap<u32, u64>;
+type Stock = SavedMap<u32, Part>;
 
-// Reads a part's number and its count from each line.
+// Reads a number.
+fn read_number(word: Option<&str>) -> Result<u32> {
+    let Some(word) = word else {
+        bail!("a line with fewer than three numbers");
+    };
+    Ok(word.parse::<u32>().context("no number")?)
+}
+
+// Reads a part's number, its count and its weight from each line.
 fn read_stock(alloc: Global, text: &str) -> Result<Stock> {
     let mut stock = Stock::new(alloc);
     for line in text.lines() {
-        let Some((part, count)) = line.split_once(' ') else {
-            bail!("a line without a count");
-        };
-        let part = part.parse::<u32>().context("a part")?;
-        let count = count.parse::<u64>().context("a count")?;
-        stock.insert(part, count)?;
+        let mut words = line.split(' ');
+        let number = read_number(words.next())?;
+        let count = read_number(words.next())?;
+        let grams = read_number(words.next())?;
+        stock.insert(number, Part { count, grams })?;
     }
     Ok(stock)
 }
@@ -39,6 +49,15 @@ fn open_from<R: Files + AllocGlobal>(rt: &R, path: &str) -> Result<Stock> {
     Ok(stock)
 }
 
+// Prints a part.
+fn print_part(rt: &impl Print, number: u32, part: Part) -> Result<()> {
+    rt.println(format_args!(
+        "{number}: {} of {} g",
+        part.count, part.grams
+    ))?;
+    Ok(())
+}
+
 fn main(rt: HostRuntime) -> Result<()> {
     let text = fs::read_to_string(&rt, "stock.txt")?;
     let stock = read_stock(rt.alloc(), text.as_str())?;
@@ -48,14 +67,20 @@ fn main(rt: HostRuntime) -> Result<()> {
     save_as(&rt, &stock, "stock.sav")?;
 
     let mut again = open_from(&rt, "stock.sav")?;
-    let (part, count) = again.pair_at(bolts);
-    rt.println(format_args!("{part}: {count}"))?;
-    again.replace_value_at(bolts, 349);
+    let (number, part) = again.pair_at(bolts);
+    print_part(&rt, *number, *part)?;
+    again.replace_value_at(
+        bolts,
+        Part {
+            count: 349,
+            grams: 12,
+        },
+    );
     save_as(&rt, &again, "stock.sav")?;
 
     let last = open_from(&rt, "stock.sav")?;
-    let (part, count) = last.pair_at(bolts);
-    rt.println(format_args!("{part}: {count}"))?;
+    let (number, part) = last.pair_at(bolts);
+    print_part(&rt, *number, *part)?;
 
     open_from(&rt, "torn.sav")?;
     Ok(())

@@ -1,5 +1,7 @@
 mod hostile;
 mod rows;
+mod spellings;
+mod streams;
 
 use btree_ext::BTreeExt;
 use btree_item::Address;

@@ -179,5 +179,10 @@ fn trees_have_their_faults(rt: HostRuntime) -> Result<(), Fail> {
     // An internal node that is its own child.
     let cycle = [MAGIC, 1, 0, 1, NONE, 1, 2, NONE, 1, 0, 7, 49, 0];
     check_tree(&rt, alloc, &file(alloc, &cycle)?, Fault::WrongParent);
+    // A leaf of three items that is both children of the root: its last key is not below the separator.
+    let shared = [
+        MAGIC, 1, 0, 7, NONE, 2, 2, NONE, 1, 1, 2, 0, 1, 1, 0, 3, 1, 0, 2, 0, 3, 0,
+    ];
+    check_tree(&rt, alloc, &file(alloc, &shared)?, Fault::AboveSeparator);
     Ok(())
 }
