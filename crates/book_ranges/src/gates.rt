@@ -17,17 +17,25 @@ pub(crate) trait Gated: Thing {
     fn gated(alloc: Global, refuses_at: usize) -> Self;
 }
 
+fn gated_set(alloc: Global, refuses_at: usize) -> RangeSet<Gate<SetStore>> {
+    let nodes = <SetStore as SlabMut<Node<u64, u64>>>::empty(alloc);
+    RangeSet::in_store(Gate::over(nodes, refuses_at))
+}
+
+fn gated_map(alloc: Global, refuses_at: usize) -> RangeMap<u64, Gate<MapStore>> {
+    let nodes = <MapStore as SlabMut<Node<u64, Span<u64>>>>::empty(alloc);
+    RangeMap::in_store(Gate::over(nodes, refuses_at))
+}
+
 impl Gated for RangeSet<Gate<SetStore>> {
     fn gated(alloc: Global, refuses_at: usize) -> Self {
-        let nodes = <SetStore as SlabMut<Node<u64, u64>>>::empty(alloc);
-        RangeSet::in_store(Gate::over(nodes, refuses_at))
+        gated_set(alloc, refuses_at)
     }
 }
 
 impl Gated for RangeMap<u64, Gate<MapStore>> {
     fn gated(alloc: Global, refuses_at: usize) -> Self {
-        let nodes = <MapStore as SlabMut<Node<u64, Span<u64>>>>::empty(alloc);
-        RangeMap::in_store(Gate::over(nodes, refuses_at))
+        gated_map(alloc, refuses_at)
     }
 }
 
