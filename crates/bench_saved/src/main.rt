@@ -87,11 +87,23 @@ fn measure_saved(
     report(rt, is_timed, "saved.save", since, (map.len(), bytes.len()))?;
     let since = Instant::now(rt)?;
     let again: Ours = map_of_bytes(alloc, &bytes)?;
-    report(rt, is_timed, "saved.open", since, (again.len(), bytes.len()))?;
+    report(
+        rt,
+        is_timed,
+        "saved.open",
+        since,
+        (again.len(), bytes.len()),
+    )?;
     let since = Instant::now(rt)?;
     let mut other = Ours::new(alloc);
     put_in_order(&mut other, &again)?;
-    report(rt, is_timed, "saved.insert_in_order", since, (other.len(), 0))
+    report(
+        rt,
+        is_timed,
+        "saved.insert_in_order",
+        since,
+        (other.len(), 0),
+    )
 }
 
 // Times a map of the kit's std that is written and read as JSON.
@@ -110,7 +122,13 @@ fn measure_json(
     report(rt, is_timed, "std.to_json", since, (map.len(), text.len()))?;
     let since = Instant::now(rt)?;
     let again: Kit = serde_json::from_str(alloc, text.as_str())?;
-    report(rt, is_timed, "std.from_json", since, (again.len(), text.len()))
+    report(
+        rt,
+        is_timed,
+        "std.from_json",
+        since,
+        (again.len(), text.len()),
+    )
 }
 
 fn main(rt: HostRuntime) -> Result<()> {

@@ -1,14 +1,16 @@
 -- Signed numbers, numbers of sixteen bytes and characters are read as they were written, and what is read is spelled so.
-use Rattle.std.proofs.Common.{◌≡◌, ℕ, ◌+◌, ◌*◌, ◌/◌, ◌%◌, ◌^◌, ◌<◌, Bool, true, false, cond, List, [], ◌∷◌, ◌++◌, Option, Some, None, refl, subst, arith}
+use Rattle.std.proofs.Common.{◌≡◌, ℕ, ◌+◌, ◌*◌, ◌/◌, ◌%◌, ◌^◌, ◌<◌, Bool, true, false, cond, ltb, List, [], ◌∷◌, ◌++◌, length, take, drop, Option, Some, None, refl, sym, subst, arith}
 use Rattle.std.specs.Prelude.{option_map}
 use Rattle.std.specs.Option.{option_and_then}
 use Rattle.std.specs.Int.{w8, w16, w32, w64, w128, cast_signed, cast_unsigned}
+use Rattle.std.proofs.lemmas.Bool.{le-ltb}
+use Rattle.std.proofs.lemmas.List.{drop_at, length-append, take-append-drop, take_at}
 use lib.Utf8.{scalar}
 use Rattle.std.specs.Char.{IsScalar}
 use Rattle.std.proofs.lemmas.Int.{of_z-to_z, to_z-of_z}
 use Rattle.btree_image.specs.Integers.{char_bytes, char_of, char_read, halves, joined, long_bytes, long_read, signed_byte_bytes, signed_byte_read, signed_bytes, signed_long_bytes, signed_long_read, signed_read}
 use Rattle.btree_image.specs.MappedLaws.{mapped-again, mapped-takes-if}
-use Rattle.btree_image.specs.Numbers.{byte_bytes, byte_read, number_bytes, number_read}
+use Rattle.btree_image.specs.Numbers.{array_bytes, array_read, byte_bytes, byte_read, number_bytes, number_read}
 use Rattle.btree_image.specs.NumberLaws.{byte-takes, number-below, pair-again, pair-below, pair-takes, some_is, u16-again, u16-takes, u32-again, u64-again, u32-takes, u64-takes, wide16, wide32, wide64}
 use Rattle.btree_image.specs.Pairs.{pair_bytes, pair_read}
 use Rattle.btree_image.specs.Spelled.{AreBytes, Takes}
@@ -80,6 +82,22 @@ char-again n is rest again = rw (again, is) refl
 
 pub long-again : (n : ℕ) (rest : List ℕ) → pair_read (number_read w64) (number_read w64) (long_bytes n ++ rest) ≡ Some (halves n, rest) → long_read (long_bytes n ++ rest) ≡ Some (n, rest)
 long-again n rest again = rw (again, joined-halves n) refl
+
+array_is : (b : Bool) (bytes rest xs : List ℕ) (found : List ℕ × List ℕ) → bytes ≡ found.0 ++ found.1 → cond b None (Some found) ≡ Some (xs, rest) → bytes ≡ xs ++ rest
+array_is true bytes rest xs found is e = absurd cc
+array_is false bytes rest xs found is e = subst (λ (x : List ℕ × List ℕ). bytes ≡ x.0 ++ x.1) (some_is found (xs, rest) e) is
+
+pub array-takes : (n : ℕ) → Takes array_bytes (array_read n)
+unfolding array_read
+array-takes n bytes rest xs fits e = array_is (ltb (length bytes) n) bytes rest xs (take n bytes, drop n bytes) (sym (take-append-drop n bytes)) e
+
+pub array-again : (n : ℕ) (xs rest : List ℕ) → length xs ≡ n → array_read n (xs ++ rest) ≡ Some (xs, rest)
+unfolding array_read
+array-again n xs rest long =
+    let enough : ltb (length (xs ++ rest)) n ≡ false = le-ltb _ _ (omega (arith, length-append xs rest)) in
+    rw (enough, take_at xs rest n long, drop_at xs rest n long) refl
+
+pub ruleset arrays = (array-again)
 
 -- what was written is read
 pub ruleset wider = (u16-again, u32-again, u64-again, pair-again, mapped-again, joined-halves, to_z-of_z)

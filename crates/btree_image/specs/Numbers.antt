@@ -33,3 +33,10 @@ unit_bytes x = []
 
 unfoldable pub unit_read : Read (Unit {0})
 unit_read bytes = Some (tt, bytes)
+
+-- an array of bytes is those bytes
+abbrev pub array_bytes : List ℕ → List ℕ
+array_bytes xs = xs
+
+unfoldable pub array_read : ℕ → Read (List ℕ)
+array_read n bytes = if nat_lt (length bytes) n then None else Some (take n bytes, drop n bytes)

@@ -1,13 +1,13 @@
-//! Numbers of the machine's width and of sixteen bytes, and characters, as bytes.
+//! Numbers of the machine's width and of sixteen bytes, characters, and arrays of bytes, as bytes.
 #![tactic(auto, using(crate::specs::IntegerLaws::wider))]
 
 ghost use Rattle.std.specs.Prelude.{◌≡◌, ◌++◌, OnOk, Some, option_map};
 ghost use Rattle.std.specs.Char.{IsScalar};
 ghost use Rattle.std.specs.Int.{w64};
-ghost use Rattle.btree_image.specs.IntegerLaws.{char-takes, u128-takes};
+ghost use Rattle.btree_image.specs.IntegerLaws.{array-takes, char-takes, u128-takes};
 ghost use Rattle.btree_image.specs.Integers.{char_bytes, char_read, long_bytes, long_read};
 ghost use Rattle.btree_image.specs.NumberLaws.{u64-takes};
-ghost use Rattle.btree_image.specs.Numbers.{number_bytes, number_read};
+ghost use Rattle.btree_image.specs.Numbers.{array_bytes, array_read, number_bytes, number_read};
 
 use crate::spelled::Spelled;
 use std::alloc::{AllocError, Allocator};
@@ -44,6 +44,30 @@ impl Spelled for u128 {
     }
 
     ghost takes = { u128-takes };
+}
+
+impl<const N: usize> Spelled for [u8; N] {
+    ghost spelling = { array_bytes };
+
+    ghost read = { array_read N };
+
+    #[tactic(auto, using(crate::specs::IntegerLaws::arrays), unfolding(crate::specs::Numbers::array_read))]
+    fn put<A: Allocator>(&self, out: &mut Vec<u8, A>) -> Result<(), AllocError> {
+        out.extend_from_slice(&self[..])
+    }
+
+    #[tactic(auto, using(crate::specs::IntegerLaws::arrays), unfolding(crate::specs::Numbers::array_read))]
+    fn take(bytes: &[u8]) -> Option<([u8; N], &[u8])> {
+        if bytes.len() < N {
+            return None;
+        }
+        let (front, rest) = bytes.split_at(N);
+        let mut values = [0u8; N];
+        values.copy_from_slice(front);
+        Some((values, rest))
+    }
+
+    ghost takes = { array-takes N };
 }
 
 // The code of a character.

@@ -7,7 +7,7 @@ use Rattle.btree_raw.specs.Limit.{IsBTreeWithinLimit}
 use Rattle.btree_valid.specs.Faults.{IsRawVerdict}
 use Rattle.btree_image.specs.declared.fault.BadImage.{BadImage}
 use Rattle.btree_image.specs.Reading.{image_at}
-use Rattle.btree_image.specs.Saved.{IsSavedAs}
+use Rattle.btree_image.specs.Saved.{AreOnlyBytesOf, IsSavedAs}
 use Rattle.btree_image.specs.Spelled.{Read}
 use Rattle.btree_save.specs.declared.error.OpenError.{OpenError}
 use Rattle.btree_save.specs.declared.error.OpenError.TheVariants as errors
@@ -51,8 +51,9 @@ module _ {K V : Type 0} (read_key : Read K) (read_value : Read V) where
     pub all : IfSome remaining (λ left. bytes ≡ left)
     pub saved : IsSavedAs read_key read_value s bytes
 
-  -- the bytes that the writer got are those of the tree
+  -- the bytes that the writer got are those of the tree, and no others are
   pub record IsWrittenTo (before after : Option (List ℕ)) (s : TreeState K V) : Type 0 where
     pub bytes : List ℕ
     pub appended : Appends before after bytes
     pub saved : IsSavedAs read_key read_value s bytes
+    pub only : AreOnlyBytesOf read_key read_value s bytes

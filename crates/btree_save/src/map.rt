@@ -5,7 +5,7 @@ ghost use Rattle.std.specs.Mem.{FitsInMemory};
 ghost use Rattle.btree_node.specs.contracts.node.Node.{the_row as node_row};
 ghost use Rattle.btree_laws.specs.TreeState.{TreeState};
 ghost use Rattle.btree_raw.specs.Limit.{IsBTreeWithinLimit};
-ghost use Rattle.btree_image.specs.Saved.{IsSavedAs};
+ghost use Rattle.btree_image.specs.Saved.{AreOnlyBytesOf, IsSavedAs};
 ghost use Rattle.btree_save.specs.Opened.{IsErrorFrom, IsOpenedFrom, IsRefusedBy, IsWrittenTo, Opens};
 
 use crate::error::{OpenError, SaveError, of_read};
@@ -20,14 +20,15 @@ use std::io::{Read, Write};
 /// A map that is opened in memory from an allocator.
 pub type SavedMap<K, V, A = Global> = BTreeMap<K, V, SlotStore<Node<K, V>, A>>;
 
-/// Returns the bytes of a map. The same map has the same bytes.
+/// Returns the bytes of a map. No others are opened as it.
 ///
 /// It reads each node once, and asks the store for each number up to the greatest that is used.
 pub fn bytes_of_map<K: Spelled + Ord, V: Spelled, C: NodesMut<K, V>, A: Allocator>(
     alloc: A,
     map: &BTreeMap<K, V, C>,
 ) -> Result<Vec<u8, A>, AllocError>
-    ensures { IfOk result (λ bytes. IsSavedAs K.read V.read map.now bytes.items) }
+    ensures saved { IfOk result (λ bytes. IsSavedAs K.read V.read map.now bytes.items) }
+    ensures only { IfOk result (λ bytes. AreOnlyBytesOf K.read V.read map.now bytes.items) }
 {
     bytes_of(alloc, map.as_raw())
 }

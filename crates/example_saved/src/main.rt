@@ -51,10 +51,7 @@ fn open_from<R: Files + AllocGlobal>(rt: &R, path: &str) -> Result<Stock> {
 
 // Prints a part.
 fn print_part(rt: &impl Print, number: u32, part: Part) -> Result<()> {
-    rt.println(format_args!(
-        "{number}: {} of {} g",
-        part.count, part.grams
-    ))?;
+    rt.println(format_args!("{number}: {} of {} g", part.count, part.grams))?;
     Ok(())
 }
 

@@ -39,7 +39,12 @@ fn numbers_have_their_bytes(rt: HostRuntime) -> Result<(), Fail> {
     check(&rt, alloc, 200u8, &[200])?;
     check(&rt, alloc, 0x0102u16, &[1, 2])?;
     check(&rt, alloc, 0x0102_0304u32, &[1, 2, 3, 4])?;
-    check(&rt, alloc, 0x0102_0304_0506_0708u64, &[1, 2, 3, 4, 5, 6, 7, 8])?;
+    check(
+        &rt,
+        alloc,
+        0x0102_0304_0506_0708u64,
+        &[1, 2, 3, 4, 5, 6, 7, 8],
+    )?;
     check(&rt, alloc, 258usize, &[0, 0, 0, 0, 0, 0, 1, 2])?;
     check(
         &rt,
@@ -59,8 +64,18 @@ fn signed_numbers_have_their_bytes(rt: HostRuntime) -> Result<(), Fail> {
     check(&rt, alloc, 258i16, &[1, 2])?;
     check(&rt, alloc, i32::MIN, &[128, 0, 0, 0])?;
     check(&rt, alloc, -1i64, &[255; 8])?;
-    check(&rt, alloc, i64::MAX, &[127, 255, 255, 255, 255, 255, 255, 255])?;
-    check(&rt, alloc, -2isize, &[255, 255, 255, 255, 255, 255, 255, 254])?;
+    check(
+        &rt,
+        alloc,
+        i64::MAX,
+        &[127, 255, 255, 255, 255, 255, 255, 255],
+    )?;
+    check(
+        &rt,
+        alloc,
+        -2isize,
+        &[255, 255, 255, 255, 255, 255, 255, 254],
+    )?;
     check(&rt, alloc, -1i128, &[255; 16])?;
     Ok(())
 }
@@ -74,6 +89,8 @@ fn others_have_their_bytes(rt: HostRuntime) -> Result<(), Fail> {
     check(&rt, alloc, 'A', &[0, 0, 0, 65])?;
     check(&rt, alloc, '\u{10ffff}', &[0, 0x10, 255, 255])?;
     check(&rt, alloc, (7u8, (true, -1i16)), &[7, 1, 255, 255])?;
+    check(&rt, alloc, [1u8, 2, 3], &[1, 2, 3])?;
+    check(&rt, alloc, [0u8; 0], &[])?;
     assert!(rt; bool::take(&[2]).is_none());
     assert!(rt; char::take(&[0, 0, 0xd8, 0]).is_none());
     assert!(rt; char::take(&[0, 0, 0xdf, 255]).is_none());

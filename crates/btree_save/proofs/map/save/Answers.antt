@@ -7,4 +7,4 @@ returns-in_err-bytes g c =
     rw p.1 tt
 
 pub returns-in-Ok : goal.returns-in-Ok
-returns-in-Ok g c = record { bytes = c.deref.result.now; appended = c.in-Ok.ensures.bytes; saved = rw c.deref.ensures.value c.in_ok-bytes.ensures }
+returns-in-Ok g c = record { bytes = c.deref.result.now; appended = c.in-Ok.ensures.bytes; saved = rw c.deref.ensures.value c.in_ok-bytes.ensures.saved; only = rw c.deref.ensures.value c.in_ok-bytes.ensures.only }
