@@ -1,12 +1,13 @@
 -- What callers conclude from the words of a set of ranges: which numbers are within a range, which ones the ranges have that
--- meet some numbers, and that `==` is equality of the ranges.
--- The ruleset gives `search` the laws on ranges that meet.
-use Rattle.std.proofs.Common.{◌≡◌, ◌≤◌, ◌<◌, ◌∙◌, ℕ, max, min, Bool, true, false, ◌||◌, nat_eq, nat_le, nat_lt, List, [], ◌∷◌, cond, refl, sym, ap, arith, ◌⊎◌, inl, inr, Decides}
-use Rattle.std.proofs.lemmas.Bool.{and_from, and_parts, cases_Bool, eq-eqb, eqb-true, le-leb, leb-true, lt-ltb, ltb-true, or_left, or_right}
+-- meet some numbers, which ones are in a gap or below it, and that `==` is equality of the ranges.
+-- The ruleset gives `search` the laws on ranges that meet, and on gaps.
+use Rattle.std.proofs.Common.{◌≡◌, ◌≤◌, ◌<◌, ◌∙◌, ℕ, suc, max, min, Bool, true, false, not, ◌&&◌, ◌||◌, nat_eq, nat_le, nat_lt, List, [], ◌∷◌, cond, refl, sym, ap, arith, ◌⊎◌, inl, inr, Decides}
+use Rattle.std.proofs.lemmas.Bool.{and_from, and_parts, cases_Bool, eq-eqb, eqb-true, le-leb, leb-true, lt-ltb, ltb-true, or_from, or_left, or_right}
 use Rattle.std.specs.Cmp.Lexicographic.{pointwise_decides}
 use Rattle.btree_map.specs.Comparison.{pair_eq}
+use Rattle.btree_range_set.specs.Gaps.{AreGaps}
 use Rattle.btree_range_set.specs.SameRanges.{ranges_eq}
-use Rattle.btree_range_set.specs.Ranges.{Overlaps, OverlapsNone, has_number, is_within, meets, ranges_meeting}
+use Rattle.btree_range_set.specs.Ranges.{AreRunsFrom, Overlaps, OverlapsNone, has_number, is_within, meets, ranges_meeting}
 
 -- ---- a number in a range
 -- a number from a range's start to below its end is within it
@@ -64,7 +65,54 @@ some-meet s e (y ∷ ys) x rest is = by (meets s e y) refl is (λ later. some-me
       let found = some later in
       record { number = found.number; inside = found.inside; has = or_right (is_within y found.number) (has_number ys found.number) found.has }
 
-pub ruleset range_laws = (has-meeting, none-meet, some-meet)
+-- ---- gaps
+not-below : (r : ℕ × ℕ) (n : ℕ) → n < r.0 → (is_within r n ≡ true) ⊎ (is_within r n ≡ false) → is_within r n ≡ false
+not-below r n below (inr out) = out
+not-below r n below (inl within) = absurd (omega (arith, below, within-low r n within))
+
+-- runs from a number on have none below it
+none-below : (low n : ℕ) (xs : List (ℕ × ℕ)) → AreRunsFrom low xs → n < low → has_number xs n ≡ false
+none-below low n [] runs below = refl
+none-below low n (x ∷ xs) runs below =
+    or_from (is_within x n) (has_number xs n)
+    (not-below x n (omega (arith, below, runs.0)) (cases_Bool (is_within x n)))
+    (none-below (suc x.1) n xs runs.2 (omega (arith, below, runs.0, runs.1)))
+
+full : (gap inside has : Bool) → gap ≡ (inside && not has) → gap ≡ false → inside ≡ true → has ≡ true
+full false true true _ _ _ = refl
+full false true false is _ _ = absurd (cc)
+full false false has _ _ is = absurd (cc)
+full true inside has _ is _ = absurd (cc)
+
+free : (gap inside has : Bool) → gap ≡ (inside && not has) → gap ≡ true → (inside ≡ true) × (has ≡ false)
+free true true false _ _ = (refl, refl)
+free true true true is _ = absurd (cc)
+free true false has is _ = absurd (cc)
+free false inside has _ is = absurd (cc)
+
+-- if there is no gap, each of the numbers is in the set
+pub no-gap : (s e n : ℕ) (xs : List (ℕ × ℕ)) → AreGaps xs s e [] → is_within (s, e) n ≡ true → has_number xs n ≡ true
+no-gap s e n xs gaps inside = full false (is_within (s, e) n) (has_number xs n) (gaps.missing n) refl inside
+
+-- a number of the first gap is one of them, and not in the set
+pub in-gap : (s e n : ℕ) (xs : List (ℕ × ℕ)) (gap : ℕ × ℕ) (rest : List (ℕ × ℕ)) → AreGaps xs s e (gap ∷ rest)
+    → is_within gap n ≡ true → (is_within (s, e) n ≡ true) × (has_number xs n ≡ false)
+in-gap s e n xs gap rest gaps inside =
+    free (has_number (gap ∷ rest) n) (is_within (s, e) n) (has_number xs n) (gaps.missing n)
+    (or_left (is_within gap n) (has_number rest n) inside)
+
+-- each of them that is below the first gap is in the set
+pub below-gap : (s e n : ℕ) (xs : List (ℕ × ℕ)) (gap : ℕ × ℕ) (rest : List (ℕ × ℕ)) → AreGaps xs s e (gap ∷ rest)
+    → s ≤ n → n < gap.0 → has_number xs n ≡ true
+below-gap s e n xs gap rest gaps low below =
+    full (has_number (gap ∷ rest) n) (is_within (s, e) n) (has_number xs n) (gaps.missing n)
+    (none-below gap.0 n (gap ∷ rest) (omega arith, gaps.runs.1, gaps.runs.2) below)
+    (within-from (s, e) n low (omega (arith, below, within-high (s, e) gap.0 first.0)))
+  where
+    first : (is_within (s, e) gap.0 ≡ true) × (has_number xs gap.0 ≡ false)
+    first = in-gap s e gap.0 xs gap rest gaps (within-from gap gap.0 (omega arith) gaps.runs.1)
+
+pub ruleset range_laws = (has-meeting, none-meet, some-meet, no-gap, in-gap, below-gap)
 
 -- ---- equal sets
 range-equal : (p q : ℕ × ℕ) → Decides (pair_eq nat_eq nat_eq p q) (p ≡ q)
