@@ -6,8 +6,8 @@ mod part;
 
 use crate::part::Part;
 use anyhow::{Context, Result, bail};
-use btree_ext::{BTreeExt, BTreeExtMut};
 use btree_save::{SavedMap, open, save};
+use btree_slab::{BTreeExt, BTreeExtMut};
 use std::alloc::Global;
 use std::fs;
 use std::rt::Files;
