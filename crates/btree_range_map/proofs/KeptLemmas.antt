@@ -1,5 +1,5 @@
 -- Addresses that stay while the range at another place is replaced, or an insertion is refused.
-use Rattle.btree_range_map.proofs.Common.{◌≡◌, ◌∙◌, ℕ, Some, refl, sym, ap, subst, same_Some, item_of, nat_cmp, IsSome, Address, Cause, Store, Count, TreeState, HasPlace, IsItemAddress, IsExchanged, Span}
+use Rattle.btree_range_map.proofs.Common.{◌≡◌, ◌∙◌, ℕ, Some, refl, sym, ap, subst, same_Some, item_of, nat_cmp, IsSome, Address, Cause, NodeStore, NodeCount, TreeState, HasPlace, IsItemAddress, IsExchanged, IsValueExchanged, SetsEnd, Span}
 use Rattle.std.proofs.Common.{◌≢◌}
 use Rattle.std.proofs.lemmas.Cmp.{nat_cmp_total}
 use Rattle.btree_node.specs.declared.node.Node.{Node}
@@ -34,8 +34,8 @@ module _ {V : Type 0} where
       → IsItemAddress s place b → IsItemAddress new place b
   refused-keeps s new gap MayRefuse cause is place b here = by cause is.refused where
     by : (cause : Cause) → IsRefused MayRefuse is.leaf.id s new cause → IsItemAddress new place b
-    by Store refused = subst (λ (t : TreeState ℕ (Span V)). IsItemAddress t place b) (sym refused.0) (record { valid = here.valid; occupied = here.occupied; has = record { at = here.has.at; only = here.has.only }; item = here.item })
-    by Count refused = subst (λ (t : TreeState ℕ (Span V)). IsItemAddress t place b) (sym refused.0) here
+    by NodeStore refused = subst (λ (t : TreeState ℕ (Span V)). IsItemAddress t place b) (sym refused.0) (record { valid = here.valid; occupied = here.occupied; has = record { at = here.has.at; only = here.has.only }; item = here.item })
+    by NodeCount refused = subst (λ (t : TreeState ℕ (Span V)). IsItemAddress t place b) (sym refused.0) here
 
 -- ---- only the start of a range was replaced
 pub key-exchanged : {V : Type 0} (s new : TreeState ℕ (Span V)) (a : Address) (was is first : ℕ) (span : Span V) → item_of s a ≡ Some (first, span)
@@ -43,3 +43,10 @@ pub key-exchanged : {V : Type 0} (s new : TreeState ℕ (Span V)) (a : Address) 
 key-exchanged {V} s new a was is first span item e =
     let same : e.value ≡ span = ap (λ (z : ℕ × Span V). z.1) (same_Some _ _ (sym e.had ∙ item)) in
     subst (λ (v : Span V). IsExchanged s new a nat_cmp (is, v)) same e.exchanged
+
+-- ---- only the end of a range was replaced
+pub sets-end : {V : Type 0} (s new : TreeState ℕ (Span V)) (a : Address) (end : ℕ) (x : ℕ × Span V) → item_of s a ≡ Some x → SetsEnd s new a end
+    → IsValueExchanged s new a nat_cmp x.1 (record { end = end; value = x.1.value })
+sets-end {V} s new a end x item e =
+    let same : e.span ≡ x.1 = ap (λ (z : ℕ × Span V). z.1) (same_Some _ _ (sym e.exchanged.had ∙ item)) in
+    subst (λ (v : Span V). IsValueExchanged s new a nat_cmp v (record { end = end; value = v.value })) same e.exchanged
