@@ -1,7 +1,8 @@
 -- A range that is cut in two, and one that is shortened at its end.
-use Rattle.btree_range_map.proofs.Common.{◌≡◌, ◌≤◌, ◌<◌, ◌∙◌, ℕ, suc, Bool, true, false, cond, List, length, set, slice_get, Option, Some, None, refl, sym, ap, subst, arith, insert, length-set, same_Some, slice_get_within, nat_cmp, KeyFits, Address, TreeState, item_of, pairs_of, FitsAt, HasPlace, IsItemAddress, IsItemAt, IsNormalized, IsPrevious, value-list, IsValueExchanged, InsertsAt, SetsEnd, Span, EndsBy, StartsFrom, AreRuns, is_between, is_within, value_at}
+use Rattle.btree_range_map.proofs.Common.{◌≡◌, ◌≤◌, ◌<◌, ◌∙◌, ℕ, suc, Bool, true, false, cond, List, length, set, slice_get, Option, Some, None, refl, sym, ap, subst, arith, insert, length-set, same_Some, slice_get_within, nat_cmp, KeyFits, Address, Clone, TreeState, item_of, pairs_of, FitsAt, HasPlace, IsItemAddress, IsItemAt, IsNormalized, IsPrevious, value-list, IsValueExchanged, InsertsAt, SetsEnd, Span, EndsBy, StartsFrom, AreRuns, is_between, is_within, value_at}
 use Rattle.btree_laws.specs.TreeState.{IsPlaceIn}
 use Rattle.btree_find.specs.Answers.{IsGapAt}
+use Rattle.btree_range_map.specs.State.{FailsToClone, ranges_of}
 use Rattle.btree_range_map.specs.Steps.{CanClear, CanCut, Clears}
 use Rattle.btree_range_map.proofs.KeptLemmas.{sets-end}
 use Rattle.btree_range_map.proofs.LimitLemmas.{put-limit}
@@ -28,6 +29,18 @@ module _ {V : Type 0} where
         left = there.4;
         right = right;
         runs = runs;
+      }
+
+  -- the clone of its value failed
+  pub cut-fails : (infallible : V → Type 0) (s : TreeState ℕ (Span V)) (gap b : Address) (start end : ℕ) (x : ℕ × Span V) → IsGapAt nat_cmp start s gap → IsPrevious s gap (Some b) → item_of s b ≡ Some x
+      → start < end → end < x.1.end → (infallible x.1.value → ⊥) → FailsToClone infallible (ranges_of s) (ranges_of s) start end Clone
+  cut-fails infallible s gap b start end x g previous read some right fails =
+      let there = before-read s gap start g.fits.place g.fits.has g.fits.fits b x previous read in
+      record {
+        is = refl;
+        stays = refl;
+        cut = record { some = some; index = there.0; range = x; here = there.3; left = there.4; right = right };
+        may_fail = fails;
       }
 
 module _ {V : Type 0} (s : TreeState ℕ (Span V)) (gap : Address) (start end last : ℕ) (value : V) (can : CanCut s gap start end last value) where

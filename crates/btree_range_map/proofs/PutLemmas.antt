@@ -1,10 +1,9 @@
 -- A range that is put at an address: between others, or over parts of those beside it, which are given back if it is
 -- refused.
-use Rattle.btree_range_map.proofs.Common.{◌≡◌, ◌≤◌, ◌<◌, ◌∙◌, ℕ, suc, List, length, set, slice_get, Some, refl, sym, ap, subst, arith, ◌⊎◌, inl, inr, cases_lt, cases_order, length-set, same_Some, slice_get_within, insert, nat_cmp, Address, Cause, Clone, Count, NodeCount, NodeStore, RangeCause, SetsEnd, Store, TreeState, item_of, pairs_of, FitsAt, ReplacesAt, HasPlace, IsItemAddress, value-list, IsExchanged, IsValueExchanged, InsertsAt, Span, IsApart, AreRuns, IsAssigned, JoinsNone, value_at, Assigns, CanAbsorb, Overlaps, between-from}
+use Rattle.btree_range_map.proofs.Common.{◌≡◌, ◌≤◌, ◌<◌, ◌∙◌, ℕ, suc, List, length, set, slice_get, Some, refl, sym, ap, subst, arith, ◌⊎◌, inl, inr, cases_lt, cases_order, length-set, same_Some, slice_get_within, insert, nat_cmp, Address, Cause, Clone, Count, RangeCause, SetsEnd, Store, TreeState, item_of, pairs_of, FitsAt, ReplacesAt, HasPlace, IsItemAddress, value-list, IsExchanged, IsValueExchanged, InsertsAt, Span, IsApart, AreRuns, IsAssigned, JoinsNone, value_at, Assigns, CanAbsorb, Overlaps, between-from}
 use Rattle.btree_node.specs.declared.node.Node.{Node}
 use Rattle.btree_store.specs.Content.{Content}
 use Rattle.btree_laws.specs.TreeState.{refused_once}
-use Rattle.btree_ext.specs.Insert.{CountsRefusal}
 use Rattle.btree_ext.specs.InsertAt.{IsRefusedAt}
 use Rattle.btree_range_map.specs.Refusals.{by_node}
 use Rattle.btree_range_map.specs.State.{ranges_of}
@@ -12,7 +11,7 @@ use Rattle.btree_range_map.specs.State as state
 use Rattle.btree_range_map.specs.Steps.{Absorbs, CanPut, CanPutOver, IsRefusedIn, KeepsBefore}
 use Rattle.btree_range_map.proofs.AbsorbLemmas.{span_to}
 use Rattle.btree_range_map.proofs.AssignLemmas.{assigned-after, assigned-wider, joins-none, put-assigned, put-runs}
-use Rattle.btree_range_map.proofs.KeptLemmas.{kept-item, kept-here, kept-place, refused-keeps, sets-end}
+use Rattle.btree_range_map.proofs.KeptLemmas.{kept-item, kept-here, kept-place, refused-keeps, refused-one, sets-end}
 use Rattle.btree_range_map.proofs.LimitLemmas.{put-limit}
 use Rattle.btree_range_map.proofs.ListLemmas.{get-set, get-set-other, set-back}
 use Rattle.btree_range_map.proofs.PlaceLemmas.{less-from}
@@ -45,13 +44,6 @@ module _ {V : Type 0} where
     uncounted = a.uncounted;
     bounded = a.bounded;
   }
-
-  -- an insertion that was refused
-  pub refused-one : (s new : TreeState ℕ (Span V)) (gap : Address) (MayRefuse : Content (Node ℕ (Span V)) → Type 0) (cause : Cause) → IsRefusedAt s new gap MayRefuse cause → IsRefusedIn s new 1 (by_node cause)
-  refused-one s new gap MayRefuse cause is = record { ranges = is.leaves.pairs; counts = by cause is.leaves.counts } where
-    by : (cause : Cause) → CountsRefusal s new cause → state.CountsRefusal (ranges_of s) (ranges_of new) 1 (by_node cause)
-    by NodeStore counts = counts
-    by NodeCount counts = let reached = counts.1 in (counts.0, omega (arith, reached))
 
   -- what was changed before a refusal was given back after it
   pub refused-back : (s mid late new : TreeState ℕ (Span V)) (cause : RangeCause) → pairs_of new ≡ pairs_of s → length (pairs_of mid) ≡ length (pairs_of s) → mid.kept ≡ s.kept → new.kept ≡ late.kept

@@ -1,6 +1,7 @@
 -- The range around a number, and the first and the last one.
-use Rattle.btree_range_map.proofs.Common.{◌≡◌, ◌≤◌, ◌<◌, ◌∙◌, ℕ, suc, true, false, List, [], ◌∷◌, length, slice_get, Option, None, Some, refl, sym, ap, subst, arith, ◌⊎◌, inl, inr, IsSome, cases_Bool, cases_lt, same_Some, Span, between-high, IsRangeAround, AreRuns, AscendFrom, is_within, value_at}
-use Rattle.std.proofs.Common.{◌-◌, IfSome, option_map}
+use Rattle.btree_range_map.proofs.Common.{◌≡◌, ◌≤◌, ◌<◌, ◌∙◌, ℕ, suc, Bool, true, false, List, [], ◌∷◌, length, slice_get, Option, None, Some, refl, sym, ap, subst, arith, ◌⊎◌, inl, inr, IsSome, cases_Bool, cases_lt, same_Some, Span, between-high, IsRangeAround, AreRuns, AscendFrom, is_within, value_at}
+use Rattle.std.proofs.Common.{◌-◌, IfSome}
+use Rattle.std.specs.Prelude.{is_some, option_copied, option_map}
 use Rattle.std.specs.Borrow.{Bor}
 use Rattle.btree_map.specs.Lists.{last_of}
 use Rattle.btree_range_map.specs.Ranges.{IsMaximalRun, range_now}
@@ -57,5 +58,10 @@ module _ {V : Type 0} where
       → IfSome o (λ x. (n : ℕ) → IsSome (value_at xs n) → n < x.1.now.end)
   last-highest xs None runs is = tt
   last-highest xs (Some x) runs is = below-last 0 xs (range_now x) runs.ascend is
+
+-- whether a value was lent tells whether there is one
+pub some-copied : {A : Type 0} (r : Option (Bor A)) (o : Option A) (is : Bool) → is ≡ is_some r → option_copied r ≡ o → is ≡ is_some o
+some-copied None o is told same = told ∙ ap (λ p. is_some p) same
+some-copied (Some x) o is told same = told ∙ ap (λ p. is_some p) same
 
 pub ruleset queries = (around-maximal, first-lowest, last-highest)

@@ -58,8 +58,8 @@ impl<V: Clone + Eq, C: NodesMut<u64, Span<V>>> RangeMap<V, C> {
     {
         let mut from = start;
         while let Some((first, last, value)) = first_part(self, from, end) {
-            let value = action(value);
-            match self.insert(first, last, value) {
+            let given = action(value);
+            match self.insert(first, last, given) {
                 Ok(()) => from = last,
                 Err(refused) => return Err(refused),
             }
