@@ -38,7 +38,8 @@ module _ {V : Type 0} where
       let there = before-read s gap start g.fits.place g.fits.has g.fits.fits b x previous read in
       record {
         is = refl;
-        stays = refl;
+        ranges = refl;
+        uncounted = refl;
         cut = record { some = some; index = there.0; range = x; here = there.3; left = there.4; right = right };
         may_fail = fails;
       }

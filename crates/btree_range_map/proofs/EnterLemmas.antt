@@ -99,7 +99,8 @@ module _ {V : Type 0} (s : TreeState ℕ (Span V)) (at : Address) (start : ℕ) 
         pub enter-fails : (infallible : V → Type 0) → (infallible x.1.value → ⊥) → FailsToClone infallible (ranges_of s) (ranges_of s) start span.end Clone
         enter-fails infallible fails = record {
           is = refl;
-          stays = refl;
+          ranges = refl;
+          uncounted = refl;
           cut = record { some = some; index = there.0; range = x; here = there.3; left = left; right = past };
           may_fail = fails;
         }

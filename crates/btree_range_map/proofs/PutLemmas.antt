@@ -318,7 +318,7 @@ module _ {V : Type 0} (s : TreeState ℕ (Span V)) (at b : Address) (start : ℕ
       pub over-refused : (new : TreeState ℕ (Span V)) → SetsEnd late new b end → IsRefusedIn s new 1 cause
       over-refused new sets =
           let late_pairs : pairs_of late ≡ pairs_of mid = refused.ranges in
-          let is_last : record { end = end; value = last.value } ≡ last = λ i. record { end = sym can.ends i; value = last.value } in
+          let is_last : ◌≡◌ {A = Span V} (record { end = end; value = last.value }) last = λ i. record { end = sym can.ends i; value = last.value } in
           let back : IsValueExchanged late new b nat_cmp short.1 last =
           subst (λ (z : Span V). IsValueExchanged late new b nat_cmp short.1 z) is_last
           (sets-end late new b end short (over-item.item ∙ ap (λ xs. slice_get xs can.place) late_pairs ∙ short-here) sets) in

@@ -40,7 +40,7 @@ module _ {V : Type 0} where
   pub refused-ranges : (infallible : V → Type 0) (mid new : RangeState V) (start end : ℕ) (cause : RangeCause) → IsInsertRefused infallible mid new start end cause → new.ranges ≡ mid.ranges
   refused-ranges infallible mid new start end cause (inl one) = one.ranges
   refused-ranges infallible mid new start end cause (inr (inl two)) = two.1.ranges
-  refused-ranges infallible mid new start end cause (inr (inr fails)) = ap (λ (s : RangeState V). s.ranges) fails.stays
+  refused-ranges infallible mid new start end cause (inr (inr fails)) = fails.ranges
 
   refused-last : (old mid new : RangeState V) (more : ℕ) (cause : RangeCause) → mid.kept ≡ old.kept → IsRefused mid new more cause → IsRefused (record new { kept = old.kept }) new more cause
   refused-last old mid new more Store same is =
@@ -57,7 +57,7 @@ module _ {V : Type 0} where
       → CountsLastRefusal infallible old new start end cause
   counts-last infallible old mid new start end cause same (inl one) = inl (refused-last old mid new 1 cause same one)
   counts-last infallible old mid new start end cause same (inr (inr fails)) =
-      let ranges : mid.ranges ≡ new.ranges = ap (λ (s : RangeState V). s.ranges) (sym fails.stays) in
+      let ranges : mid.ranges ≡ new.ranges = sym fails.ranges in
       let now : mid ≡ record new { kept = old.kept } = λ i. record { ranges = ranges i; kept = same i } in
       inr (inr (subst (λ (s : RangeState V). FailsToClone infallible s new start end cause) now fails))
   counts-last infallible old mid new start end cause same (inr (inl two)) =

@@ -56,11 +56,12 @@ module _ {V : Type 0} (infallible : V → Type 0) (old new : RangeState V) (star
   -- of its ends, and the clone of its value may fail
   pub record FailsToClone (cause : RangeCause) : Type 0 where
     pub is : cause ≡ Clone
-    pub stays : new ≡ old
+    pub ranges : new.ranges ≡ old.ranges
+    pub uncounted : new.kept ≡ old.kept
     pub cut : CutsOne old.ranges start end
     pub may_fail : infallible cut.range.1.value → ⊥
 
-  -- a removal of these numbers was refused: it adds one range
+  -- a removal of these numbers was refused: it adds one range, and clones a value
   abbrev pub IsRemoveRefused : RangeCause → Type 0
   IsRemoveRefused cause = IsRefused old new 1 cause ⊎ FailsToClone cause
 

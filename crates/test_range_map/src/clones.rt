@@ -41,6 +41,14 @@ fn insert<C: NodesMut<u64, Span<Picky>> + Drop>(
     map.insert(start, end, Picky { number })
 }
 
+// Returns the number of a value that a map lends.
+fn number(value: Option<&Picky>) -> Option<u64> {
+    match value {
+        Some(picky) => Some(picky.number),
+        None => None,
+    }
+}
+
 // Checks that a map has one range.
 fn check_one<C: NodesMut<u64, Span<Picky>> + Drop>(
     rt: &impl Abort,
@@ -69,11 +77,13 @@ fn cut<C: NodesMut<u64, Span<Picky>> + Drop>(rt: &impl Abort, origin: C::Origin)
     assert_true(rt, insert(&mut map, 12, 15, 7).is_ok());
     assert_true(rt, map.remove(16, 18).is_ok());
     assert_same(rt, map.len(), 4);
-    assert_same(rt, map.get(11), Some(&Picky { number: 5 }));
-    assert_same(rt, map.get(14), Some(&Picky { number: 7 }));
-    assert_same(rt, map.get(15), Some(&Picky { number: 5 }));
-    assert_same(rt, map.get(16), None);
-    assert_same(rt, map.get(19), Some(&Picky { number: 5 }));
+    assert_same(
+        rt,
+        (number(map.get(11)), number(map.get(14))),
+        (Some(5), Some(7)),
+    );
+    assert_same(rt, (number(map.get(15)), number(map.get(16))), (Some(5), None));
+    assert_same(rt, number(map.get(19)), Some(5));
 }
 
 // No part of a range is cloned unless the numbers are inside it, at neither of its ends.

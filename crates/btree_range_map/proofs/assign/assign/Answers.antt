@@ -36,12 +36,12 @@ pub split-requires : goal.split-requires
 split-requires g c =
     let differ = told-apart _ c.requires.same _ _ _ c.eq.ensures c.if-eq.false in
     let past = c.if-span-last.true in
-    rw (clone-same _ c.requires.clones _ _ c.in-Ok.ensures)
+    rw (clone-same _ c.requires.clones _ _ c.in-Ok.ensures.cases)
     (enter-splits c.args.map.now c.place_for-at.result c.args.start c.args.span c.place_for-at.ensures c.requires.runs c.requires.some c.in-Some.before _
     c.in-Some.ensures c.pair_at.ensures differ (omega (arith, past)))
 
-pub returns-in-Ok-clause-joins_none : goal.returns-in-Ok-clause-joins_none
-returns-in-Ok-clause-joins_none g c =
+pub returns-then-span-last-clause-joins_none : goal.returns-then-span-last-clause-joins_none
+returns-then-span-last-clause-joins_none g c =
     let differ = told-apart _ c.requires.same _ _ _ c.eq.ensures c.if-eq.false in
     let past = c.if-span-last.true in
     on-error c.split.result (JoinsNone (pairs_of c.args.map.now) c.args.start c.args.span.end c.args.span.value)
@@ -60,7 +60,7 @@ returns-in-Err-clause-cause g c =
     let differ = told-apart _ c.requires.same _ _ _ c.eq.ensures c.if-eq.false in
     let past = c.if-span-last.true in
     inr (inr (enter-fails c.args.map.now c.place_for-at.result c.args.start c.args.span c.place_for-at.ensures c.requires.runs c.requires.some c.in-Some.before _
-    c.in-Some.ensures c.pair_at.ensures differ (omega (arith, past)) _ c.in-Err.ensures))
+    c.in-Some.ensures c.pair_at.ensures differ (omega (arith, past)) _ c.in-Err.ensures.cases))
 
 pub put_over-requires-clause-can : goal.put_over-requires-clause-can
 put_over-requires-clause-can g c =
@@ -72,8 +72,8 @@ put_over-requires-clause-can g c =
     c.in-Some.ensures c.pair_at.ensures differ
     (omega (arith, from, apart)) (omega (arith, past))
 
-pub returns-in-Ok-clause-cause : goal.returns-in-Ok-clause-cause
-returns-in-Ok-clause-cause g c =
+pub returns-then-span-last-clause-cause : goal.returns-then-span-last-clause-cause
+returns-then-span-last-clause-cause g c =
     let differ = told-apart _ c.requires.same _ _ _ c.eq.ensures c.if-eq.false in
     let past = c.if-span-last.true in
     refused-two c.split.result _ _ _ _

@@ -43,3 +43,7 @@ returns-in-Err-clause-joins_none g c =
 
 pub returns-in-Err-clause-cause : goal.returns-in-Err-clause-cause
 returns-in-Err-clause-cause g c = rw c.refused_by_node.ensures.cause (refused-one c.args.map.now c.insert_at.new.self c.args.at _ _ c.in-Err.ensures.refused)
+
+pub put_before-requires-clause-next : goal.put_before-requires-clause-next
+put_before-requires-clause-next g c = λ place has.
+    c.in-Overlapped.ensures place (normal-place c.args.map.now c.args.at place has c.normalize-next.result c.normalize-next.ensures)

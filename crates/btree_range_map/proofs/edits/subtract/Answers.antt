@@ -10,12 +10,12 @@ clear_from-requires-clause-from g c = clear-found c.args.map.now c.args.start c.
 
 pub cut-requires : goal.cut-requires
 cut-requires g c =
-    rw (c.requires.clones _ _ c.in-Ok-clone.ensures)
+    rw (c.requires.clones _ _ c.in-Ok-clone.ensures.cases)
     (cut-can c.args.map.now c.in-Err.gap c.in-Some.before c.args.start c.args.end _ c.in-Err.ensures
     c.in-Some.ensures c.pair_at.ensures c.requires.some (omega (arith, c.if-end-last.true)) c.requires.runs)
 
-pub returns-in-Ok-clone-clause-cuts_one : goal.returns-in-Ok-clone-clause-cuts_one
-returns-in-Ok-clone-clause-cuts_one g c =
+pub returns-then-end-last-clause-cuts_one : goal.returns-then-end-last-clause-cuts_one
+returns-then-end-last-clause-cuts_one g c =
     let s = c.args.map.now in
     let f = c.in-Err.ensures.fits in
     let there = before-read s c.in-Err.gap c.args.start f.place f.has f.fits c.in-Some.before _ c.in-Some.ensures c.pair_at.ensures in
@@ -24,12 +24,12 @@ returns-in-Ok-clone-clause-cuts_one g c =
 pub returns-in-Err-clone-clause-cuts_one : goal.returns-in-Err-clone-clause-cuts_one
 returns-in-Err-clone-clause-cuts_one g c =
     (cut-fails _ c.args.map.now c.in-Err.gap c.in-Some.before c.args.start c.args.end _ c.in-Err.ensures
-    c.in-Some.ensures c.pair_at.ensures c.requires.some (omega (arith, c.if-end-last.true)) c.in-Err-clone.ensures).cut
+    c.in-Some.ensures c.pair_at.ensures c.requires.some (omega (arith, c.if-end-last.true)) c.in-Err-clone.ensures.cases).cut
 
 pub returns-in-Err-clone-clause-cause : goal.returns-in-Err-clone-clause-cause
 returns-in-Err-clone-clause-cause g c =
     inr (cut-fails _ c.args.map.now c.in-Err.gap c.in-Some.before c.args.start c.args.end _ c.in-Err.ensures
-    c.in-Some.ensures c.pair_at.ensures c.requires.some (omega (arith, c.if-end-last.true)) c.in-Err-clone.ensures)
+    c.in-Some.ensures c.pair_at.ensures c.requires.some (omega (arith, c.if-end-last.true)) c.in-Err-clone.ensures.cases)
 
 pub clear_from-requires-then-start-last-clause-from : goal.clear_from-requires-then-start-last-clause-from
 clear_from-requires-then-start-last-clause-from g c =

@@ -14,7 +14,7 @@ loop-first-preserved g c =
     let l = c.loop-first in
     let one = c.in-Ok.ensures in (
       updated-more (CalledAt g.F.FnMut) c.args.action c.args.self.now.ranges c.args.start c.args.end l.from l.action l.self.ranges l.invariant.0 c.first_part.ensures.runs
-          (c.in-Some.first, record { end = c.in-Some.last; value = c.in-Some.value.now }) c.in-Some.ensures.some c.action.result c.action.new.self (record { shown = c.in-Some.value; shows = refl; called = c.action.ensures }) c.insert.new.self.ranges one.assigned,
+          (c.in-Some.first, record { end = c.in-Some.last; value = c.in-Some.value.now }) c.in-Some.ensures.some c.action-given.result c.action-given.new.self (record { shown = c.in-Some.value; shows = refl; called = c.action-given.ensures }) c.insert.new.self.ranges one.assigned,
       one.uncounted ∙ l.invariant.1,
       grows-more c.args.self.now l.self c.insert.new.self l.invariant.1 l.invariant.2 one.bounded,
       search of_calls,
@@ -25,7 +25,7 @@ returns-in-Err-clause-stopped g c =
     let l = c.loop-first in
     let refused = c.in-Err.ensures in
     updated-until (CalledAt g.F.FnMut) c.args.action c.args.self.now.ranges c.args.start c.args.end l.from l.action l.self.ranges l.invariant.0 c.first_part.ensures.runs
-    (c.in-Some.first, record { end = c.in-Some.last; value = c.in-Some.value.now }) c.in-Some.ensures.some c.action.result c.action.new.self (record { shown = c.in-Some.value; shows = refl; called = c.action.ensures }) c.insert.new.self.ranges c.in-Err.refused
+    (c.in-Some.first, record { end = c.in-Some.last; value = c.in-Some.value.now }) c.in-Some.ensures.some c.action-given.result c.action-given.new.self (record { shown = c.in-Some.value; shows = refl; called = c.action-given.ensures }) c.insert.new.self.ranges c.in-Err.refused
     (refused-ranges _ l.self c.insert.new.self _ _ _ refused.cause) refused.returned.0 refused.returned.1 refused.returned.2
 
 pub returns-in-Err-clause-inside : goal.returns-in-Err-clause-inside
