@@ -82,7 +82,11 @@ fn cut<C: NodesMut<u64, Span<Picky>> + Drop>(rt: &impl Abort, origin: C::Origin)
         (number(map.get(11)), number(map.get(14))),
         (Some(5), Some(7)),
     );
-    assert_same(rt, (number(map.get(15)), number(map.get(16))), (Some(5), None));
+    assert_same(
+        rt,
+        (number(map.get(15)), number(map.get(16))),
+        (Some(5), None),
+    );
     assert_same(rt, number(map.get(19)), Some(5));
 }
 

@@ -60,7 +60,11 @@ fn ask_four<C: ClearNodes<u64, Span<u64>> + Drop>(rt: &impl Abort, origin: C::Or
         );
     }
     assert_same(rt, copied(map.first()), Some(range(1, 4, 7)));
-    assert_same(rt, copied(map.last()), Some(range(u64::MAX - 2, u64::MAX, 9)));
+    assert_same(
+        rt,
+        copied(map.last()),
+        Some(range(u64::MAX - 2, u64::MAX, 9)),
+    );
     // Four ranges are in one node.
     assert_same(rt, map.store().len(), 1);
 }

@@ -47,11 +47,7 @@ fn check_table<C: NodesMut<u64, Span<u64>>>(
     }
     let mut number = 0u64;
     for (value, is_listed) in table.iter().zip(listed.iter()) {
-        assert_same(
-            rt,
-            (map.get(number).copied(), *is_listed),
-            (*value, *value),
-        );
+        assert_same(rt, (map.get(number).copied(), *is_listed), (*value, *value));
         number = number.wrapping_add(1);
     }
     assert_same(

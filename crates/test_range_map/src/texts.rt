@@ -49,3 +49,51 @@ impl<A: Allocator> PartialEq for Text<A> {
 impl<A: Allocator> Eq for Text<A> {
     ghost laws = { nat_list_eq_equiv };
 }
+
+type Owned<'a> = Text<&'a Refusing<Global>>;
+
+// Returns a text.
+fn text<A: Allocator>(alloc: A, text: &str) -> Result<Text<A>, AllocError> {
+    let text = String::from_str(alloc, text)?;
+    Ok(Text { text })
+}
+
+// Checks the text that a map has for a number.
+fn check_text<A: Allocator>(rt: &impl Abort, found: Option<&Text<A>>, expected: &str) {
+    match found {
+        Some(found) => assert_same(rt, found.text.as_str(), expected),
+        None => panic!(rt; "no text"),
+    }
+}
+
+// An insertion into a range is refused where a clone of its text finds no memory. The same call is granted afterwards.
+fn refuse_one<'a, C: NodesMut<u64, Span<Owned<'a>>> + Drop>(
+    rt: &impl Abort,
+    alloc: &'a Refusing<Global>,
+    origin: C::Origin,
+) -> Result<(), Fail> {
+    let mut map: RangeMap<Owned<'a>, C> = RangeMap::new(origin);
+    let old = text(alloc, "old")?;
+    let new = text(alloc, "new")?;
+    assert_true(rt, map.insert(10, 20, old).is_ok());
+    alloc.refuse(1);
+    let refused = match map.insert(12, 15, new) {
+        Ok(()) => panic!(rt; "not refused"),
+        Err(refused) => refused,
+    };
+    assert_same(rt, (refused.cause, refused.key), (RangeCause::Clone, 12));
+    assert_same(rt, map.len(), 1);
+    let Span { end, value } = refused.value;
+    assert_true(rt, map.insert(12, end, value).is_ok());
+    assert_same(rt, map.len(), 3);
+    check_text(rt, map.get(11), "old");
+    check_text(rt, map.get(14), "new");
+    check_text(rt, map.get(15), "old");
+    Ok(())
+}
+
+#[test]
+fn clones_texts(rt: HostRuntime) -> Result<(), Fail> {
+    let alloc = Refusing::over(rt.alloc(), 0);
+    refuse_one::<SlabStore<Node<u64, Span<Owned>>>>(&rt, &alloc, rt.alloc())
+}

@@ -23,7 +23,7 @@ returns-then-end-last-clause-cuts_one g c =
 
 pub returns-in-Err-clone-clause-cuts_one : goal.returns-in-Err-clone-clause-cuts_one
 returns-in-Err-clone-clause-cuts_one g c =
-    (cut-fails _ c.args.map.now c.in-Err.gap c.in-Some.before c.args.start c.args.end _ c.in-Err.ensures
+    (cut-fails g.V.Clone.is_infallible c.args.map.now c.in-Err.gap c.in-Some.before c.args.start c.args.end _ c.in-Err.ensures
     c.in-Some.ensures c.pair_at.ensures c.requires.some (omega (arith, c.if-end-last.true)) c.in-Err-clone.ensures.cases).cut
 
 pub returns-in-Err-clone-clause-cause : goal.returns-in-Err-clone-clause-cause
