@@ -28,7 +28,7 @@ pub fn sum_values<C: NodesMut<u64, Span<u64>>>(map: &RangeMap<u64, C>, keys: &[u
     let mut sum = 0u64;
     for key in keys {
         if let Some(value) = map.get(*key) {
-            sum = sum.wrapping_add(value).wrapping_add(1);
+            sum = sum.wrapping_add(*value).wrapping_add(1);
         }
     }
     sum

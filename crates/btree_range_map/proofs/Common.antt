@@ -15,12 +15,14 @@ pub use Rattle.btree_find.specs.Navigation.{HasPlace, IsItemAddress, IsItemAt, I
 pub use Rattle.btree_item.specs.Address.{Address}
 pub use Rattle.btree_item.specs.Pairs.{KeyFits}
 pub use Rattle.btree_item.specs.declared.refused.Cause.{Cause}
-pub use Rattle.btree_item.specs.declared.refused.Cause.TheVariants.{Count, Store}
+pub use Rattle.btree_item.specs.declared.refused.Cause.TheVariants.{Count as NodeCount, Store as NodeStore}
 pub use Rattle.btree_laws.specs.TreeState.{TreeState, item_of, pairs_of}
 pub use Rattle.btree_range_map.specs.CallerLaws.{between-from, between-high, between-low}
 pub use Rattle.btree_range_map.specs.Places.{EndsBy, StartsFrom, IsRangeAround, IsApart}
 pub use Rattle.btree_range_map.specs.Ranges.{AreRuns, is_between, is_within, value_at, CutsOne, AscendFrom, meets, ranges_meeting, IsAssigned, JoinsNone}
 pub use Rattle.btree_range_map.specs.Series.{GoesThrough}
 pub use Rattle.btree_range_map.specs.State.{GrowsWithinLimit}
-pub use Rattle.btree_range_map.specs.Steps.{Overlaps, Assigns, CanAbsorb}
+pub use Rattle.btree_range_map.specs.Steps.{Overlaps, Assigns, CanAbsorb, SetsEnd}
+pub use Rattle.btree_range_map.specs.declared.refused.RangeCause.{RangeCause}
+pub use Rattle.btree_range_map.specs.declared.refused.RangeCause.TheVariants.{Clone, Count, Store}
 pub use Rattle.btree_range_map.specs.declared.span.Span.{Span}

@@ -2,6 +2,7 @@
 use denote.RattleType.{RattleType}
 use denote.Param.Send.{IsSend, IsSync, sendable}
 use Rattle.std.specs.Prelude.{ℕ}
+use Rattle.std.specs.declared.clone.Clone as clone
 use Rattle.std.specs.declared.cmp.PartialEq as eq
 use Rattle.btree_node.specs.declared.node_stores.Nodes as nodes
 use Rattle.btree_node.specs.declared.node_stores.NodesMut as nodes_mut
@@ -17,11 +18,11 @@ module _ (V : RattleType) where
   pub Span-sync : IsSync V → IsSync (Range.the_field V).row
   Span-sync values = search sendable depth 20
 
-module _ (V C O : RattleType) (e : eq.Ghosts V.Denot) (s : nodes_mut.Ghosts C.Denot ℕ (Span V.Denot) O.Denot) (s' : nodes.Ghosts C.Denot ℕ (Span V.Denot)) where
-  pub Ranges-send : IsSend V → IsSend C → IsSend (Ranges.the_field V C O e s s').row
+module _ (V C O : RattleType) (c : clone.Ghosts V.Denot) (e : eq.Ghosts V.Denot) (s : nodes_mut.Ghosts C.Denot ℕ (Span V.Denot) O.Denot) (s' : nodes.Ghosts C.Denot ℕ (Span V.Denot)) where
+  pub Ranges-send : IsSend V → IsSend C → IsSend (Ranges.the_field V C O c e s s').row
   Ranges-send values store = let span = Span-send V values in search (Map-send, sendable) depth 20
 
-  pub Ranges-sync : IsSync V → IsSync C → IsSync (Ranges.the_field V C O e s s').row
+  pub Ranges-sync : IsSync V → IsSync C → IsSync (Ranges.the_field V C O c e s s').row
   Ranges-sync values store = let span = Span-sync V values in search (Map-sync, sendable) depth 20
 
 pub ruleset crosses = (Span-send, Span-sync, Ranges-send, Ranges-sync)

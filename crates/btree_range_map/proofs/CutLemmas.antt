@@ -1,8 +1,10 @@
 -- A range that is cut in two, and one that is shortened at its end.
-use Rattle.btree_range_map.proofs.Common.{◌≡◌, ◌≤◌, ◌<◌, ◌∙◌, ℕ, suc, Bool, true, false, cond, List, length, set, slice_get, Option, Some, None, refl, sym, ap, subst, arith, insert, length-set, same_Some, slice_get_within, nat_cmp, KeyFits, Address, TreeState, item_of, pairs_of, FitsAt, HasPlace, IsItemAddress, IsItemAt, IsNormalized, IsPrevious, value-list, IsValueExchanged, InsertsAt, Span, EndsBy, StartsFrom, AreRuns, is_between, is_within, value_at}
+use Rattle.btree_range_map.proofs.Common.{◌≡◌, ◌≤◌, ◌<◌, ◌∙◌, ℕ, suc, Bool, true, false, cond, List, length, set, slice_get, Option, Some, None, refl, sym, ap, subst, arith, insert, length-set, same_Some, slice_get_within, nat_cmp, KeyFits, Address, Clone, TreeState, item_of, pairs_of, FitsAt, HasPlace, IsItemAddress, IsItemAt, IsNormalized, IsPrevious, value-list, IsValueExchanged, InsertsAt, SetsEnd, Span, EndsBy, StartsFrom, AreRuns, is_between, is_within, value_at}
 use Rattle.btree_laws.specs.TreeState.{IsPlaceIn}
 use Rattle.btree_find.specs.Answers.{IsGapAt}
+use Rattle.btree_range_map.specs.State.{FailsToClone, ranges_of}
 use Rattle.btree_range_map.specs.Steps.{CanClear, CanCut, Clears}
+use Rattle.btree_range_map.proofs.KeptLemmas.{sets-end}
 use Rattle.btree_range_map.proofs.LimitLemmas.{put-limit}
 use Rattle.btree_range_map.proofs.ListLemmas.{get-inserted-before, get-set, get-set-other, set-insert}
 use Rattle.btree_range_map.proofs.PlaceLemmas.{before-read, gap-below, less-from, previous-place}
@@ -29,6 +31,19 @@ module _ {V : Type 0} where
         runs = runs;
       }
 
+  -- the clone of its value failed
+  pub cut-fails : (infallible : V → Type 0) (s : TreeState ℕ (Span V)) (gap b : Address) (start end : ℕ) (x : ℕ × Span V) → IsGapAt nat_cmp start s gap → IsPrevious s gap (Some b) → item_of s b ≡ Some x
+      → start < end → end < x.1.end → (infallible x.1.value → ⊥) → FailsToClone infallible (ranges_of s) (ranges_of s) start end Clone
+  cut-fails infallible s gap b start end x g previous read some right fails =
+      let there = before-read s gap start g.fits.place g.fits.has g.fits.fits b x previous read in
+      record {
+        is = refl;
+        ranges = refl;
+        uncounted = refl;
+        cut = record { some = some; index = there.0; range = x; here = there.3; left = there.4; right = right };
+        may_fail = fails;
+      }
+
 module _ {V : Type 0} (s : TreeState ℕ (Span V)) (gap : Address) (start end last : ℕ) (value : V) (can : CanCut s gap start end last value) where
   abbrev whole : ℕ × Span V
   whole = (can.first, record { end = last; value = value })
@@ -53,19 +68,20 @@ module _ {V : Type 0} (s : TreeState ℕ (Span V)) (gap : Address) (start end la
     };
   }
 
-  pub cut-done : (mid new : TreeState ℕ (Span V)) (right left : Address) (was is : Span V) (r : ℕ × Span V) → r ≡ (end, record { end = last; value = value }) → is ≡ record { end = start; value = value }
-      → InsertsAt s mid gap nat_cmp right r → IsPrevious mid right (Some left) → IsValueExchanged mid new left nat_cmp was is → Clears s new start end
-  cut-done mid new right left was is r r_is is_is puts previous e =
+  pub cut-done : (mid new : TreeState ℕ (Span V)) (right left : Address) (r : ℕ × Span V) → r ≡ (end, record { end = last; value = value })
+      → InsertsAt s mid gap nat_cmp right r → IsPrevious mid right (Some left) → SetsEnd mid new left start → Clears s new start end
+  cut-done mid new right left r r_is puts previous sets =
       let place_is : puts.place ≡ suc can.before = can.has.only puts.place puts.has.at in
-      let l : ℕ × Span V = (can.first, is) in
-      let l_is : l ≡ (can.first, record { end = start; value = value }) = ap (λ (z : Span V). (can.first, z)) is_is in
+      let l : ℕ × Span V = (can.first, record { end = start; value = value }) in
+      let l_is : l ≡ (can.first, record { end = start; value = value }) = refl in
       let pairs : pairs_of mid ≡ insert (pairs_of s) (suc can.before) r = puts.pairs ∙ ap (λ p. insert (pairs_of s) p r) place_is in
       let there : HasPlace mid right (suc can.before) = subst (λ p. HasPlace mid right p) place_is puts.there in
       let item : IsItemAddress mid can.before left = (previous-place mid right (suc can.before) there (Some left) previous).here in
       let listed : slice_get (pairs_of mid) can.before ≡ Some whole =
       ap (λ xs. slice_get xs can.before) pairs ∙ get-inserted-before (pairs_of s) can.before r within ∙ can.listed in
+      let e = sets-end mid new left start whole (item.item ∙ listed) sets in
       let final : pairs_of new ≡ insert (set (pairs_of s) can.before l) (suc can.before) r =
-      value-list nat_cmp mid new left can.before was is whole item listed e
+      value-list nat_cmp mid new left can.before whole.1 l.1 whole item listed e
       ∙ ap (λ xs. set xs can.before l) pairs
       ∙ set-insert (pairs_of s) can.before r l within in
       let P : List (ℕ × Span V) → Type 0 = AreRuns in
@@ -74,15 +90,21 @@ module _ {V : Type 0} (s : TreeState ℕ (Span V)) (gap : Address) (start end la
         runs = subst P (sym final) (cut-runs (pairs_of s) can.before start end whole l r can.runs can.listed l_is r_is can.left can.some can.right);
         uncounted = e.exchanged.uncounted ∙ puts.inserted.uncounted;
         bounded = λ more.
-            let count = ap length e.exchanged.pairs ∙ length-set (pairs_of mid) e.exchanged.place (e.key, is) in
+            let count = ap length e.exchanged.pairs ∙ length-set (pairs_of mid) e.exchanged.place (e.key, l.1) in
             let limit = put-limit s mid gap right (suc can.before) r can.has (omega (arith, within)) puts in
             omega (arith, count, limit);
       }
 
 -- ---- a range that is shortened at its end
-module _ {V : Type 0} (s new : TreeState ℕ (Span V)) (gap a : Address) (start end place : ℕ) (was is : Span V) (x : ℕ × Span V) (is_is : is ≡ record { end = start; value = x.1.value }) (has : HasPlace s gap place)
+module _ {V : Type 0} (s new : TreeState ℕ (Span V)) (gap a : Address) (start end place : ℕ) (x : ℕ × Span V) (has : HasPlace s gap place)
     (fits : KeyFits nat_cmp start place (pairs_of s)) (runs : AreRuns (pairs_of s)) (previous : IsPrevious s gap (Some a)) (read : item_of s a ≡ Some x) (some : start < end) (cuts : start < x.1.end)
-    (e : IsValueExchanged s new a nat_cmp was is) where
+    (sets : SetsEnd s new a start) where
+  abbrev is : Span V
+  is = record { end = start; value = x.1.value }
+
+  abbrev e : IsValueExchanged s new a nat_cmp x.1 is
+  e = sets-end s new a start x read sets
+
   before : (q : ℕ) × (suc q ≡ place) × IsItemAddress s q a × (slice_get (pairs_of s) q ≡ Some x) × (x.0 < start)
   before = before-read s gap start place has fits a x previous read
 
@@ -90,13 +112,13 @@ module _ {V : Type 0} (s new : TreeState ℕ (Span V)) (gap a : Address) (start 
   shorter = (x.0, is)
 
   pairs : pairs_of new ≡ set (pairs_of s) before.0 (x.0, is)
-  pairs = value-list nat_cmp s new a before.0 was is x before.2 before.3 e
+  pairs = value-list nat_cmp s new a before.0 x.1 is x before.2 before.3 e
 
   last : is.end ≡ start
-  last = ap (λ (z : Span V). z.end) is_is
+  last = refl
 
   value : is.value ≡ x.1.value
-  value = ap (λ (z : Span V). z.value) is_is
+  value = refl
 
   short-runs : AreRuns (set (pairs_of s) before.0 (x.0, is))
   short-runs = shorter-runs (pairs_of s) before.0 start x (x.0, is) runs before.3 refl last value before.4 cuts
@@ -134,7 +156,7 @@ module _ {V : Type 0} (s new : TreeState ℕ (Span V)) (gap a : Address) (start 
   pub shorten-then : x.1.end ≤ end → (final : TreeState ℕ (Span V)) → Clears new final start end → Clears s final start end
   shorten-then high final c =
       let part : (n : ℕ) → is_between start end n ≡ false → is_within (x.0, is) n ≡ is_within x n =
-      (λ n out. ap (λ (z : Span V). is_within (x.0, z) n) is_is ∙ left-part start end x some cuts high n out) in
+      (λ n out. left-part start end x some cuts high n out) in
       let outside : IsSameOutside (pairs_of s) start end (pairs_of new) =
       subst (λ xs. IsSameOutside (pairs_of s) start end xs) (sym pairs)
       (clear-part (pairs_of s) (pairs_of s) before.0 start end x (x.0, is) runs short-runs before.3 (sym value) part (λ n out. refl)) in

@@ -1,5 +1,6 @@
 -- Where numbers that are given a value begin: what the range before them asks for.
-use Rattle.btree_range_map.proofs.Common.{◌≡◌, ◌≤◌, ◌<◌, ◌∙◌, ℕ, suc, max, slice_get, Some, None, sym, ap, subst, arith, ◌⊎◌, inl, inr, same_Some, Address, TreeState, item_of, pairs_of, HasPlace, IsItemAddress, IsPrevious, Span, AreRuns, CutsOne, JoinsNone, value_at, Assigns, CanAbsorb, between-from}
+use Rattle.btree_range_map.proofs.Common.{◌≡◌, ◌≤◌, ◌<◌, ◌∙◌, ℕ, suc, max, slice_get, Some, None, refl, sym, ap, subst, arith, ◌⊎◌, inl, inr, same_Some, Address, Clone, TreeState, item_of, pairs_of, HasPlace, IsItemAddress, IsPrevious, Span, AreRuns, CutsOne, JoinsNone, value_at, Assigns, CanAbsorb, between-from}
+use Rattle.btree_range_map.specs.State.{FailsToClone, ranges_of}
 use Rattle.btree_range_map.specs.Steps.{CanPut, CanPutOver, CanSplit, IsPlaceFor}
 use Rattle.btree_range_map.proofs.AssignLemmas.{joins-none}
 use Rattle.btree_range_map.proofs.PlaceLemmas.{before-none, before-some, previous-place, read-range}
@@ -94,6 +95,16 @@ module _ {V : Type 0} (s : TreeState ℕ (Span V)) (at : Address) (start : ℕ) 
         pub enter-cuts : CutsOne (pairs_of s) start span.end
         enter-cuts = record { some = some; index = there.0; range = x; here = there.3; left = left; right = past }
 
+        -- the clone of its value failed
+        pub enter-fails : (infallible : V → Type 0) → (infallible x.1.value → ⊥) → FailsToClone infallible (ranges_of s) (ranges_of s) start span.end Clone
+        enter-fails infallible fails = record {
+          is = refl;
+          ranges = refl;
+          uncounted = refl;
+          cut = record { some = some; index = there.0; range = x; here = there.3; left = left; right = past };
+          may_fail = fails;
+        }
+
         pub enter-none : JoinsNone (pairs_of s) start span.end span.value
         enter-none =
             joins-none (pairs_of s) here.place start span.end span.value runs some
@@ -109,12 +120,14 @@ module _ {V : Type 0} (s : TreeState ℕ (Span V)) (at : Address) (start : ℕ) 
             here.within
 
       -- it ends inside them, or where they do
-      pub enter-over : start < x.1.end → x.1.end ≤ span.end → CanPutOver s at b start span x.1
+      pub enter-over : start < x.1.end → x.1.end ≤ span.end → CanPutOver s at b start span x.1.end
       enter-over cuts within = record {
         here = here;
         place = there.0;
         next = there.1;
         first = x.0;
+        last = x.1;
+        ends = refl;
         item = there.2;
         listed = there.3;
         cuts = cuts;

@@ -1,5 +1,5 @@
 -- From what the calls of the map say of addresses to places in the list of ranges.
-use Rattle.btree_range_map.proofs.Common.{◌≡◌, ◌≤◌, ◌<◌, ◌∙◌, ℕ, zero, suc, Bool, true, false, List, length, slice_get, Option, Some, None, refl, sym, ap, subst, arith, ◌⊎◌, inr, nat_cmp, IsSome, lt-ltb, same_Some, slice_get_within, KeyFits, Address, TreeState, item_of, pairs_of, HasPlace, IsItemAddress, IsItemAt, IsNormalized, IsPrevious, Span, EndsBy, IsRangeAround, StartsFrom, AreRuns, CutsOne, value_at, between-from}
+use Rattle.btree_range_map.proofs.Common.{◌≡◌, ◌≤◌, ◌<◌, ◌∙◌, ℕ, zero, suc, Bool, true, false, List, length, slice_get, Option, Some, None, refl, sym, ap, subst, arith, ◌⊎◌, inl, inr, nat_cmp, IsSome, lt-ltb, same_Some, slice_get_within, KeyFits, Address, TreeState, item_of, pairs_of, HasPlace, IsItemAddress, IsItemAt, IsNormalized, IsPrevious, Span, EndsBy, IsRangeAround, StartsFrom, AreRuns, CutsOne, value_at, between-from}
 use Rattle.std.proofs.Common.{Result, Ok, Err}
 use Rattle.std.specs.declared.cmp.Ordering.TheVariants.{Equal, Less}
 use Rattle.std.specs.Prelude.{IfErr, IfSome, OnErr}
@@ -11,7 +11,7 @@ use Rattle.btree_find.specs.CallerLaws.{pair-there}
 use Rattle.btree_find.specs.Navigation.{IsItemBefore, IsNext}
 use Rattle.btree_range_map.specs.Places.{IsApart}
 use Rattle.btree_range_map.specs.Steps.{IsPlaceFor}
-use Rattle.btree_range_map.specs.Ranges.{TellsSame}
+use Rattle.btree_range_map.specs.Ranges.{ClonesEqual, TellsSame}
 use Rattle.btree_range_map.proofs.RunLemmas.{run-at, value-here, value-none}
 
 pub less-from : (x y : ℕ) → x < y → nat_cmp x y ≡ Less
@@ -167,6 +167,12 @@ module _ {V : Type 0} (ranges : List (ℕ × Span V)) (place : ℕ) (span : Span
   }
 
 -- a call was refused that adds two ranges where numbers are inside one
-pub refused-two : {X Y : Type 0} (r : Result X Y) (P Q : Y → Type 0) (C : Type 0) → C → IfErr r Q → IfErr r (λ y. P y ⊎ (C × Q y))
-refused-two (Ok v) P Q C cuts is = tt
-refused-two (Err v) P Q C cuts is = inr (cuts, is)
+pub refused-two : {X Y : Type 0} (r : Result X Y) (P Q R : Y → Type 0) (C : Type 0) → C → IfErr r Q → IfErr r (λ y. P y ⊎ (C × Q y) ⊎ R y)
+refused-two (Ok v) P Q R C cuts is = tt
+refused-two (Err v) P Q R C cuts is = inr (inl (cuts, is))
+
+-- a clone of a span
+pub clone-same : {V : Type 0} (is_clone : V → V → Type 0) → ClonesEqual is_clone → (span copy : Span V) → (copy.end ≡ span.end) × is_clone span.value copy.value → copy ≡ span
+clone-same is_clone clones span copy is =
+    let value = clones span.value copy.value is.1 in
+    λ i. record { end = is.0 i; value = value i }

@@ -1,17 +1,17 @@
 -- A range that is put at an address: between others, or over parts of those beside it, which are given back if it is
 -- refused.
-use Rattle.btree_range_map.proofs.Common.{◌≡◌, ◌≤◌, ◌<◌, ◌∙◌, ℕ, suc, List, length, set, slice_get, Some, refl, sym, ap, subst, arith, ◌⊎◌, inl, inr, cases_lt, cases_order, length-set, same_Some, slice_get_within, insert, nat_cmp, Address, Cause, Store, Count, TreeState, item_of, pairs_of, FitsAt, ReplacesAt, HasPlace, IsItemAddress, value-list, IsExchanged, IsValueExchanged, InsertsAt, Span, IsApart, AreRuns, IsAssigned, JoinsNone, value_at, Assigns, CanAbsorb, Overlaps, between-from}
+use Rattle.btree_range_map.proofs.Common.{◌≡◌, ◌≤◌, ◌<◌, ◌∙◌, ℕ, suc, List, length, set, slice_get, Some, refl, sym, ap, subst, arith, ◌⊎◌, inl, inr, cases_lt, cases_order, length-set, same_Some, slice_get_within, insert, nat_cmp, Address, Cause, Clone, Count, RangeCause, SetsEnd, Store, TreeState, item_of, pairs_of, FitsAt, ReplacesAt, HasPlace, IsItemAddress, value-list, IsExchanged, IsValueExchanged, InsertsAt, Span, IsApart, AreRuns, IsAssigned, JoinsNone, value_at, Assigns, CanAbsorb, Overlaps, between-from}
 use Rattle.btree_node.specs.declared.node.Node.{Node}
 use Rattle.btree_store.specs.Content.{Content}
 use Rattle.btree_laws.specs.TreeState.{refused_once}
-use Rattle.btree_ext.specs.Insert.{CountsRefusal}
 use Rattle.btree_ext.specs.InsertAt.{IsRefusedAt}
+use Rattle.btree_range_map.specs.Refusals.{by_node}
 use Rattle.btree_range_map.specs.State.{ranges_of}
 use Rattle.btree_range_map.specs.State as state
 use Rattle.btree_range_map.specs.Steps.{Absorbs, CanPut, CanPutOver, IsRefusedIn, KeepsBefore}
 use Rattle.btree_range_map.proofs.AbsorbLemmas.{span_to}
 use Rattle.btree_range_map.proofs.AssignLemmas.{assigned-after, assigned-wider, joins-none, put-assigned, put-runs}
-use Rattle.btree_range_map.proofs.KeptLemmas.{kept-item, kept-here, kept-place, refused-keeps}
+use Rattle.btree_range_map.proofs.KeptLemmas.{kept-item, kept-here, kept-place, refused-keeps, refused-one, sets-end}
 use Rattle.btree_range_map.proofs.LimitLemmas.{put-limit}
 use Rattle.btree_range_map.proofs.ListLemmas.{get-set, get-set-other, set-back}
 use Rattle.btree_range_map.proofs.PlaceLemmas.{less-from}
@@ -45,18 +45,11 @@ module _ {V : Type 0} where
     bounded = a.bounded;
   }
 
-  -- an insertion that was refused
-  pub refused-one : (s new : TreeState ℕ (Span V)) (gap : Address) (MayRefuse : Content (Node ℕ (Span V)) → Type 0) (cause : Cause) → IsRefusedAt s new gap MayRefuse cause → IsRefusedIn s new 1 cause
-  refused-one s new gap MayRefuse cause is = record { ranges = is.leaves.pairs; counts = by cause is.leaves.counts } where
-    by : (cause : Cause) → CountsRefusal s new cause → state.CountsRefusal (ranges_of s) (ranges_of new) 1 cause
-    by Store counts = counts
-    by Count counts = let reached = counts.1 in (counts.0, omega (arith, reached))
-
   -- what was changed before a refusal was given back after it
-  pub refused-back : (s mid late new : TreeState ℕ (Span V)) (cause : Cause) → pairs_of new ≡ pairs_of s → length (pairs_of mid) ≡ length (pairs_of s) → mid.kept ≡ s.kept → new.kept ≡ late.kept
+  pub refused-back : (s mid late new : TreeState ℕ (Span V)) (cause : RangeCause) → pairs_of new ≡ pairs_of s → length (pairs_of mid) ≡ length (pairs_of s) → mid.kept ≡ s.kept → new.kept ≡ late.kept
       → IsRefusedIn mid late 1 cause → IsRefusedIn s new 1 cause
   refused-back s mid late new cause pairs count kept_mid kept_new is = record { ranges = pairs; counts = by cause is.counts } where
-    by : (cause : Cause) → state.CountsRefusal (ranges_of mid) (ranges_of late) 1 cause → state.CountsRefusal (ranges_of s) (ranges_of new) 1 cause
+    by : (cause : RangeCause) → state.CountsRefusal (ranges_of mid) (ranges_of late) 1 cause → state.CountsRefusal (ranges_of s) (ranges_of new) 1 cause
     by Store counts =
         let limit = ap (λ k. k.limit) kept_mid in
         let below = counts.1 in
@@ -65,6 +58,7 @@ module _ {V : Type 0} where
         let limit = ap (λ k. k.limit) kept_mid in
         let reached = counts.1 in
         (kept_new ∙ counts.0 ∙ kept_mid, omega (arith, reached, count, limit))
+    by Clone counts = absurd counts
 
 -- ---- between others, or in place of the next one
 module _ {V : Type 0} (s : TreeState ℕ (Span V)) (at : Address) (start : ℕ) (span : Span V) (can : CanPut s at start span) where
@@ -211,9 +205,9 @@ module _ {V : Type 0} (s : TreeState ℕ (Span V)) (at : Address) (start : ℕ) 
             ∙ trim-listed s can.here.place span rest next o can.runs mid is
 
         module _ (new : TreeState ℕ (Span V)) (back : IsExchanged late new next nat_cmp (o.first, rest)) where
-          pub trimmed-refused : IsRefusedIn s new 1 cause
+          pub trimmed-refused : IsRefusedIn s new 1 (by_node cause)
           trimmed-refused =
-              refused-back s mid late new cause (trim-back s can.here.place span rest next o can.runs mid is late refused.leaves.pairs late-item new back)
+              refused-back s mid late new (by_node cause) (trim-back s can.here.place span rest next o can.runs mid is late refused.leaves.pairs late-item new back)
               count is.uncounted back.uncounted (refused-one mid late at MayRefuse cause refused)
 
           pub trimmed-keeps : KeepsBefore s new at
@@ -223,7 +217,10 @@ module _ {V : Type 0} (s : TreeState ℕ (Span V)) (at : Address) (start : ℕ) 
               (refused-keeps mid late at MayRefuse cause refused p b (kept-item s mid next (span.end, rest) is b can.here.place p o.item.has here far)) far
 
 -- ---- the range before it is overlapped
-module _ {V : Type 0} (s : TreeState ℕ (Span V)) (at b : Address) (start : ℕ) (span last : Span V) (can : CanPutOver s at b start span last) where
+module _ {V : Type 0} (s : TreeState ℕ (Span V)) (at b : Address) (start : ℕ) (span : Span V) (end : ℕ) (can : CanPutOver s at b start span end) where
+  abbrev last : Span V
+  last = can.last
+
   abbrev whole : ℕ × Span V
   whole = (can.first, last)
 
@@ -242,9 +239,13 @@ module _ {V : Type 0} (s : TreeState ℕ (Span V)) (at b : Address) (start : ℕ
   short-runs : AreRuns (set (pairs_of s) can.place short)
   short-runs = shorter-runs (pairs_of s) can.place start whole short can.runs can.listed refl refl refl left can.cuts
 
-  module _ (mid : TreeState ℕ (Span V)) (was : Span V) (e : IsValueExchanged s mid b nat_cmp was (record { end = start; value = last.value })) where
+  -- it was given the end `start`
+  module _ (mid : TreeState ℕ (Span V)) (sets : SetsEnd s mid b start) where
+    abbrev e : IsValueExchanged s mid b nat_cmp last (record { end = start; value = last.value })
+    e = sets-end s mid b start whole (can.item.item ∙ can.listed) sets
+
     short-pairs : pairs_of mid ≡ set (pairs_of s) can.place short
-    short-pairs = value-list nat_cmp s mid b can.place was (record { end = start; value = last.value }) whole can.item can.listed e
+    short-pairs = value-list nat_cmp s mid b can.place last (record { end = start; value = last.value }) whole can.item can.listed e
 
     short-count : length (pairs_of mid) ≡ length (pairs_of s)
     short-count = ap length short-pairs ∙ length-set (pairs_of s) can.place short
@@ -307,18 +308,22 @@ module _ {V : Type 0} (s : TreeState ℕ (Span V)) (at b : Address) (start : ℕ
           | inr differs ↦ far (λ i. elim differs [ inl lt ↦ omega (arith, lt, i) | inr gt ↦ omega (arith, gt, i) ])
         ]
 
-    module _ (late : TreeState ℕ (Span V)) (cause : Cause) (refused : IsRefusedIn mid late 1 cause) (keeps : KeepsBefore mid late at) where
+    module _ (late : TreeState ℕ (Span V)) (cause : RangeCause) (refused : IsRefusedIn mid late 1 cause) (keeps : KeepsBefore mid late at) where
       pub over-item : IsItemAddress late can.place b
       over-item =
           keeps can.place b
           (subst (λ p. HasPlace mid at p) (sym can.next) (kept-place s mid b (e.key, record { end = start; value = last.value }) e.exchanged at can.here.place can.here.has))
           (kept-here s mid b (e.key, record { end = start; value = last.value }) e.exchanged can.place can.item.has)
 
-      pub over-refused : (new : TreeState ℕ (Span V)) (had : Span V) → IsValueExchanged late new b nat_cmp had last → IsRefusedIn s new 1 cause
-      over-refused new had back =
+      pub over-refused : (new : TreeState ℕ (Span V)) → SetsEnd late new b end → IsRefusedIn s new 1 cause
+      over-refused new sets =
           let late_pairs : pairs_of late ≡ pairs_of mid = refused.ranges in
+          let is_last : ◌≡◌ {A = Span V} (record { end = end; value = last.value }) last = λ i. record { end = sym can.ends i; value = last.value } in
+          let back : IsValueExchanged late new b nat_cmp short.1 last =
+          subst (λ (z : Span V). IsValueExchanged late new b nat_cmp short.1 z) is_last
+          (sets-end late new b end short (over-item.item ∙ ap (λ xs. slice_get xs can.place) late_pairs ∙ short-here) sets) in
           let final : pairs_of new ≡ pairs_of s =
-          value-list nat_cmp late new b can.place had last short over-item (ap (λ xs. slice_get xs can.place) late_pairs ∙ short-here) back
+          value-list nat_cmp late new b can.place short.1 last short over-item (ap (λ xs. slice_get xs can.place) late_pairs ∙ short-here) back
           ∙ ap (λ xs. set xs can.place whole) (late_pairs ∙ short-pairs)
           ∙ set-back (pairs_of s) can.place short whole can.listed in
           refused-back s mid late new cause final short-count e.exchanged.uncounted back.exchanged.uncounted refused

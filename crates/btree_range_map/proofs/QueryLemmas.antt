@@ -1,20 +1,23 @@
 -- The range around a number, and the first and the last one.
-use Rattle.btree_range_map.proofs.Common.{◌≡◌, ◌≤◌, ◌<◌, ◌∙◌, ℕ, suc, true, false, List, [], ◌∷◌, length, slice_get, Option, None, Some, refl, sym, ap, subst, arith, ◌⊎◌, inl, inr, IsSome, cases_Bool, cases_lt, same_Some, Span, between-high, IsRangeAround, AreRuns, AscendFrom, is_within, value_at}
+use Rattle.btree_range_map.proofs.Common.{◌≡◌, ◌≤◌, ◌<◌, ◌∙◌, ℕ, suc, Bool, true, false, List, [], ◌∷◌, length, slice_get, Option, None, Some, refl, sym, ap, subst, arith, ◌⊎◌, inl, inr, IsSome, cases_Bool, cases_lt, same_Some, Span, between-high, IsRangeAround, AreRuns, AscendFrom, is_within, value_at}
 use Rattle.std.proofs.Common.{◌-◌, IfSome}
+use Rattle.std.specs.Prelude.{is_some, option_copied, option_map}
+use Rattle.std.specs.Borrow.{Bor}
 use Rattle.btree_map.specs.Lists.{last_of}
-use Rattle.btree_range_map.specs.Ranges.{IsMaximalRun}
+use Rattle.btree_range_map.specs.Ranges.{IsMaximalRun, range_now}
 use Rattle.btree_range_map.proofs.RangeLaws.{maximal, starts-here}
 use Rattle.btree_range_map.proofs.RunLemmas.{none-below}
 use Rattle.btree_range_map.proofs.StepLemmas.{passed}
 
 module _ {V : Type 0} where
   -- the range around a number is a maximal run
-  pub around-maximal : (xs : List (ℕ × Span V)) (n : ℕ) (o : Option (ℕ × Span V)) → AreRuns xs → IfSome o (IsRangeAround xs n) → IfSome o (IsMaximalRun xs)
+  pub around-maximal : (xs : List (ℕ × Span V)) (n : ℕ) (o : Option (ℕ × Bor (Span V))) → AreRuns xs → IfSome o (λ x. IsRangeAround xs n (range_now x))
+      → IfSome o (λ x. IsMaximalRun xs (range_now x))
   around-maximal xs n None runs around = tt
-  around-maximal xs n (Some x) runs around = maximal xs around.index x runs around.listed
+  around-maximal xs n (Some x) runs around = maximal xs around.index (range_now x) runs around.listed
 
   -- no number below the start of the first range has a value
-  pub first-lowest : (xs : List (ℕ × Span V)) (o : Option (ℕ × Span V)) → AreRuns xs → o ≡ slice_get xs 0
+  pub first-lowest : (xs : List (ℕ × Span V)) (o : Option (ℕ × Bor (Span V))) → AreRuns xs → option_map range_now o ≡ slice_get xs 0
       → IfSome o (λ x. (n : ℕ) → IsSome (value_at xs n) → x.0 ≤ n)
   first-lowest xs None runs is = tt
   first-lowest [] (Some x) runs is = absurd (cc)
@@ -51,8 +54,14 @@ module _ {V : Type 0} where
     by (inr out) rest = rest n (subst (λ (o : Option V). IsSome o) (sym (passed (is_within y n) (Some y.1.value) (value_at (z ∷ xs) n) out)) has)
 
   -- all numbers that have a value are below the end of the last range
-  pub last-highest : (xs : List (ℕ × Span V)) (o : Option (ℕ × Span V)) → AreRuns xs → o ≡ last_of xs → IfSome o (λ x. (n : ℕ) → IsSome (value_at xs n) → n < x.1.end)
+  pub last-highest : (xs : List (ℕ × Span V)) (o : Option (ℕ × Bor (Span V))) → AreRuns xs → option_map range_now o ≡ last_of xs
+      → IfSome o (λ x. (n : ℕ) → IsSome (value_at xs n) → n < x.1.now.end)
   last-highest xs None runs is = tt
-  last-highest xs (Some x) runs is = below-last 0 xs x runs.ascend is
+  last-highest xs (Some x) runs is = below-last 0 xs (range_now x) runs.ascend is
+
+-- whether a value was lent tells whether there is one
+pub some-copied : {A : Type 0} (r : Option (Bor A)) (o : Option A) (is : Bool) → is ≡ is_some r → option_copied r ≡ o → is ≡ is_some o
+some-copied None o is told same = told ∙ ap (λ p. is_some p) same
+some-copied (Some x) o is told same = told ∙ ap (λ p. is_some p) same
 
 pub ruleset queries = (around-maximal, first-lowest, last-highest)

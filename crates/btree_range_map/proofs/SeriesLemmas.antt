@@ -1,8 +1,8 @@
 -- Series of insertions, by one range more.
-use Rattle.btree_range_map.proofs.Common.{◌≡◌, ◌<◌, ◌≤◌, ◌∙◌, ℕ, cond, List, [], ◌∷◌, length, Option, Some, refl, sym, ap, subst, arith, inl, inr, cases_lt, Cause, Count, Store, Span, CutsOne, IsAssigned, is_within, value_at, GoesThrough, GrowsWithinLimit}
+use Rattle.btree_range_map.proofs.Common.{◌≡◌, ◌<◌, ◌≤◌, ◌∙◌, ℕ, cond, List, [], ◌∷◌, length, Option, Some, refl, sym, ap, subst, arith, inl, inr, cases_lt, Clone, Count, RangeCause, Store, Span, CutsOne, IsAssigned, is_within, value_at, GoesThrough, GrowsWithinLimit}
 use Rattle.btree_laws.specs.TreeState.{refused_once}
 use Rattle.btree_range_map.specs.Series.{assigned_all}
-use Rattle.btree_range_map.specs.State.{CountsLastRefusal, IsInsertRefused, IsRefused, RangeState}
+use Rattle.btree_range_map.specs.State.{CountsLastRefusal, FailsToClone, IsInsertRefused, IsRefused, RangeState}
 
 -- ---- the values
 module _ {V S : Type 0} (steps : S → Option (ℕ × Span V) → S → Type 0) where
@@ -37,11 +37,12 @@ module _ {V : Type 0} where
   pub grows-same : (old mid new : RangeState V) → GrowsWithinLimit old mid → new.ranges ≡ mid.ranges → GrowsWithinLimit old new
   grows-same old mid new grows same = subst (λ (l : List (ℕ × Span V)). length old.ranges < length l → length l ≤ old.kept.limit) (sym same) grows
 
-  pub refused-ranges : (mid new : RangeState V) (start end : ℕ) (cause : Cause) → IsInsertRefused mid new start end cause → new.ranges ≡ mid.ranges
-  refused-ranges mid new start end cause (inl one) = one.ranges
-  refused-ranges mid new start end cause (inr two) = two.1.ranges
+  pub refused-ranges : (infallible : V → Type 0) (mid new : RangeState V) (start end : ℕ) (cause : RangeCause) → IsInsertRefused infallible mid new start end cause → new.ranges ≡ mid.ranges
+  refused-ranges infallible mid new start end cause (inl one) = one.ranges
+  refused-ranges infallible mid new start end cause (inr (inl two)) = two.1.ranges
+  refused-ranges infallible mid new start end cause (inr (inr fails)) = fails.ranges
 
-  refused-last : (old mid new : RangeState V) (more : ℕ) (cause : Cause) → mid.kept ≡ old.kept → IsRefused mid new more cause → IsRefused (record new { kept = old.kept }) new more cause
+  refused-last : (old mid new : RangeState V) (more : ℕ) (cause : RangeCause) → mid.kept ≡ old.kept → IsRefused mid new more cause → IsRefused (record new { kept = old.kept }) new more cause
   refused-last old mid new more Store same is =
       let count = ap length is.ranges in
       let limit = ap (λ k. k.limit) same in
@@ -50,9 +51,14 @@ module _ {V : Type 0} where
       let count = ap length is.ranges in
       let limit = ap (λ k. k.limit) same in
       record { ranges = refl; counts = (is.counts.0 ∙ same, omega (arith, is.counts.1, count, limit)) }
+  refused-last old mid new more Clone same is = absurd is.counts
 
-  pub counts-last : (old mid new : RangeState V) (start end : ℕ) (cause : Cause) → mid.kept ≡ old.kept → IsInsertRefused mid new start end cause
-      → CountsLastRefusal old new start end cause
-  counts-last old mid new start end cause same (inl one) = inl (refused-last old mid new 1 cause same one)
-  counts-last old mid new start end cause same (inr two) =
-      inr (subst (λ (l : List (ℕ × Span V)). CutsOne l start end) (sym two.1.ranges) two.0, refused-last old mid new 2 cause same two.1)
+  pub counts-last : (infallible : V → Type 0) (old mid new : RangeState V) (start end : ℕ) (cause : RangeCause) → mid.kept ≡ old.kept → IsInsertRefused infallible mid new start end cause
+      → CountsLastRefusal infallible old new start end cause
+  counts-last infallible old mid new start end cause same (inl one) = inl (refused-last old mid new 1 cause same one)
+  counts-last infallible old mid new start end cause same (inr (inr fails)) =
+      let ranges : mid.ranges ≡ new.ranges = sym fails.ranges in
+      let now : mid ≡ record new { kept = old.kept } = λ i. record { ranges = ranges i; kept = same i } in
+      inr (inr (subst (λ (s : RangeState V). FailsToClone infallible s new start end cause) now fails))
+  counts-last infallible old mid new start end cause same (inr (inl two)) =
+      inr (inl (subst (λ (l : List (ℕ × Span V)). CutsOne l start end) (sym two.1.ranges) two.0, refused-last old mid new 2 cause same two.1))

@@ -1,7 +1,8 @@
 -- A range that is put inside another one: two are added, or none.
-use Rattle.btree_range_map.proofs.Common.{◌≡◌, ◌≤◌, ◌<◌, ◌∙◌, ℕ, suc, Bool, true, false, cond, List, length, set, slice_get, Option, Some, None, refl, sym, ap, subst, arith, insert, length-set, same_Some, slice_get_within, nat_cmp, Address, TreeState, pairs_of, FitsAt, HasPlace, IsItemAddress, IsPrevious, value-list, IsValueExchanged, InsertsAt, Span, AreRuns, IsAssigned, is_between, is_within, value_at, Assigns}
+use Rattle.btree_range_map.proofs.Common.{◌≡◌, ◌≤◌, ◌<◌, ◌∙◌, ℕ, suc, Bool, true, false, cond, List, length, set, slice_get, Option, Some, None, refl, sym, ap, subst, arith, insert, length-set, same_Some, slice_get_within, nat_cmp, Address, TreeState, pairs_of, FitsAt, HasPlace, IsItemAddress, IsPrevious, value-list, InsertsAt, SetsEnd, Span, AreRuns, IsAssigned, is_between, is_within, value_at, Assigns}
 use Rattle.std.proofs.lemmas.List.Edits.{length-insert}
 use Rattle.btree_range_map.specs.Steps.{CanSplit}
+use Rattle.btree_range_map.proofs.KeptLemmas.{sets-end}
 use Rattle.btree_range_map.proofs.LimitLemmas.{put-limit}
 use Rattle.btree_range_map.proofs.ListLemmas.{get-inserted-before, get-put, get-put-below, get-set, set-insert}
 use Rattle.btree_range_map.proofs.PlaceLemmas.{less-from, previous-place}
@@ -128,14 +129,14 @@ module _ {V : Type 0} (s : TreeState ℕ (Span V)) (at : Address) (start : ℕ) 
         let one_more = length-insert (pairs_of mid) (suc q) m (omega (arith, count, lt)) in
         absurd (omega (arith, past, lt, longer, count, one_more))
 
-    pub split-done : (late new : TreeState ℕ (Span V)) (middle left : Address) (was is : Span V) (m : ℕ × Span V) → m ≡ (start, span) → is ≡ record { end = start; value = last.value }
-        → InsertsAt mid late right nat_cmp middle m → IsPrevious late middle (Some left) → IsValueExchanged late new left nat_cmp was is → Assigns s new start span
-    split-done late new middle left was is m m_is is_is again previous e =
+    pub split-done : (late new : TreeState ℕ (Span V)) (middle left : Address) (m : ℕ × Span V) → m ≡ (start, span)
+        → InsertsAt mid late right nat_cmp middle m → IsPrevious late middle (Some left) → SetsEnd late new left start → Assigns s new start span
+    split-done late new middle left m m_is again previous sets =
         let q = can.cut.before in
         let xs = pairs_of s in
         let lt = room in
-        let l : ℕ × Span V = (can.cut.first, is) in
-        let l_is : l ≡ (can.cut.first, record { end = start; value = last.value }) = ap (λ (z : Span V). (can.cut.first, z)) is_is in
+        let l : ℕ × Span V = (can.cut.first, record { end = start; value = last.value }) in
+        let l_is : l ≡ (can.cut.first, record { end = start; value = last.value }) = refl in
         let second : again.place ≡ suc q = mid-place.only again.place again.has.at in
         let pairs : pairs_of late ≡ insert (insert xs (suc q) r) (suc q) m =
         again.pairs ∙ ap (λ p. insert (pairs_of mid) p m) second ∙ ap (λ zs. insert zs (suc q) m) mid-pairs in
@@ -144,8 +145,9 @@ module _ {V : Type 0} (s : TreeState ℕ (Span V)) (at : Address) (start : ℕ) 
         let inner : q < length (insert xs (suc q) r) = (let longer = length-insert xs (suc q) r (omega (arith, lt)) in omega (arith, longer, lt)) in
         let listed : slice_get (pairs_of late) q ≡ Some whole =
         ap (λ zs. slice_get zs q) pairs ∙ get-inserted-before (insert xs (suc q) r) q m inner ∙ get-inserted-before xs q r room ∙ can.cut.listed in
+        let e = sets-end late new left start whole (item.item ∙ listed) sets in
         let final : pairs_of new ≡ insert (insert (set xs q l) (suc q) r) (suc q) m =
-        value-list nat_cmp late new left q was is whole item listed e
+        value-list nat_cmp late new left q last l.1 whole item listed e
         ∙ ap (λ zs. set zs q l) pairs
         ∙ set-insert (insert xs (suc q) r) q m l inner
         ∙ ap (λ zs. insert zs (suc q) m) (set-insert xs q r l room) in
@@ -157,7 +159,7 @@ module _ {V : Type 0} (s : TreeState ℕ (Span V)) (at : Address) (start : ℕ) 
           runs = subst P (sym final) (split-runs xs q start span.end span.value whole l m r can.cut.runs can.cut.listed l_is m_is r_is can.cut.left can.cut.some can.cut.right can.differ);
           uncounted = e.exchanged.uncounted ∙ again.inserted.uncounted ∙ puts.inserted.uncounted;
           bounded = λ more.
-              let count = ap length e.exchanged.pairs ∙ length-set (pairs_of late) e.exchanged.place (e.key, is) in
+              let count = ap length e.exchanged.pairs ∙ length-set (pairs_of late) e.exchanged.place (e.key, l.1) in
               let within = mid-length in
               let limit = put-limit mid late right middle (suc q) m mid-place (omega (arith, within, lt)) again in
               let same = ap (λ k. k.limit) puts.inserted.uncounted in

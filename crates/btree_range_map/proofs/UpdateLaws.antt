@@ -3,7 +3,7 @@
 use Rattle.btree_range_map.proofs.Common.{◌≡◌, ◌≤◌, ◌<◌, ◌∙◌, ℕ, zero, Bool, true, false, cond, List, [], ◌∷◌, Option, Some, None, refl, sym, ap, subst, arith, ◌⊎◌, inl, inr, cases_Bool, cases_lt, Span, between-from, between-high, between-low, AreRuns, AscendFrom, is_between, is_within, ranges_meeting, value_at}
 use Rattle.std.specs.Prelude.{◌++◌}
 use Rattle.std.proofs.lemmas.List.{append_assoc}
-use Rattle.btree_item.specs.declared.refused.Refused.{Refused}
+use Rattle.btree_range_map.specs.declared.refused.RangeRefused.{RangeRefused}
 use Rattle.btree_range_map.specs.Series.{AreAssigned, assigned_all}
 use Rattle.btree_range_map.specs.Updates.{IsUpdated, IsUpdatedUntil, Returns, parts_between}
 use Rattle.btree_range_map.proofs.RunLemmas.{above-not-between, none-below}
@@ -131,7 +131,7 @@ module _ {F V : Type 0} (Step : F → V → V → F → Type 0) where
         returns = (is.0, is.1, given, is.3, r.returns, ap (λ z. z ∷ given) first);
       }
 
-  module _ (f : F) (old new : List (ℕ × Span V)) (s e : ℕ) (refused : Refused ℕ (Span V)) (runs : AreRuns old) (is : IsUpdatedUntil Step f (parts_between s e old) old new refused) (n : ℕ) where
+  module _ (f : F) (old new : List (ℕ × Span V)) (s e : ℕ) (refused : RangeRefused (Span V)) (runs : AreRuns old) (is : IsUpdatedUntil Step f (parts_between s e old) old new refused) (n : ℕ) where
     calls : CallsBefore f is.called is.given (refused.key, refused.value)
     calls = calls-before f is.last is.called is.given (refused.key, refused.value) is.returns
 

@@ -4,7 +4,7 @@ use Rattle.std.proofs.Common.{nat_lt}
 use Rattle.std.specs.Prelude.{◌++◌, map}
 use Rattle.std.proofs.lemmas.Bool.{ltb-false, ltb-true}
 use Rattle.std.proofs.lemmas.List.{append-nil, append_assoc}
-use Rattle.btree_item.specs.declared.refused.Refused.{Refused}
+use Rattle.btree_range_map.specs.declared.refused.RangeRefused.{RangeRefused}
 use Rattle.btree_range_map.specs.CallerLaws.{value-meeting}
 use Rattle.btree_range_map.specs.Ranges.{DifferWhereTheyTouch}
 use Rattle.btree_range_map.specs.Series.{AreAssigned, assigned_all}
@@ -250,7 +250,7 @@ module _ {F V : Type 0} (Step : F → V → V → F → Type 0) where
         }
 
         -- their insertion was refused
-        pub updated-until : (new : List (ℕ × Span V)) (refused : Refused ℕ (Span V)) → new ≡ mid → refused.key ≡ part.0 → refused.value.end ≡ part.1.end → refused.value.value ≡ w
+        pub updated-until : (new : List (ℕ × Span V)) (refused : RangeRefused (Span V)) → new ≡ mid → refused.key ≡ part.0 → refused.value.end ≡ part.1.end → refused.value.value ≡ w
             → IsUpdatedUntil Step action (parts_between start end old) old new refused
         updated-until new refused same key last value =
             let Given : List (ℕ × Span V) → Type 0 = λ l. Returns Step action (is.called ++ part ∷ []) (is.given ++ l) next in

@@ -2,7 +2,7 @@
 -- stepped.
 use Rattle.std.specs.Prelude.{◌≡◌, ℕ, cond, List, [], ◌∷◌, Option, None, Some}
 use Rattle.std.specs.Iterator.{YieldsThen}
-use Rattle.btree_item.specs.declared.refused.Refused.{Refused}
+use Rattle.btree_range_map.specs.declared.refused.RangeRefused.{RangeRefused}
 use Rattle.btree_range_map.specs.declared.span.Span.{Span}
 use Rattle.btree_range_map.specs.Ranges.{is_within, value_at}
 use Rattle.btree_range_map.specs.State.{RangeState}
@@ -31,5 +31,5 @@ module _ {V S : Type 0} (steps : S → Option (ℕ × Span V) → S → Type 0) 
   InsertsRanges = GoesThrough steps old source None new rest
 
   -- those before a refused one were
-  abbrev pub InsertsRangesUntil : Refused ℕ (Span V) → Type 0
+  abbrev pub InsertsRangesUntil : RangeRefused (Span V) → Type 0
   InsertsRangesUntil refused = GoesThrough steps old source (Some (refused.key, refused.value)) new rest

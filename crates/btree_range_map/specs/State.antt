@@ -3,11 +3,11 @@
 use Rattle.std.specs.Prelude.{◌≡◌, ℕ, ◌+◌, ◌<◌, ◌≤◌, List, length, ◌⊎◌, refl}
 use Rattle.std.specs.Coded.{Coded, code_by, coded_ℕ, coded_list, coded×}
 use Rattle.std.specs.Ordering.{nat_cmp}
-use Rattle.btree_item.specs.declared.refused.Cause.{Cause}
-use Rattle.btree_item.specs.declared.refused.Cause.TheVariants.{Store, Count}
 use Rattle.btree_store.specs.Content.{Content}
 use Rattle.btree_node.specs.declared.node.Node.{Node}
 use Rattle.btree_laws.specs.TreeState.{IsBTree, Kept, TreeState, coded_kept, pairs_of, refused_once}
+use Rattle.btree_range_map.specs.declared.refused.RangeCause.{RangeCause}
+use Rattle.btree_range_map.specs.declared.refused.RangeCause.TheVariants.{Store, Count, Clone}
 use Rattle.btree_range_map.specs.declared.span.Span.{Span}
 use Rattle.btree_range_map.specs.Ranges.{CutsOne}
 
@@ -40,27 +40,41 @@ module _ {V : Type 0} where
 
 module _ {V : Type 0} (old new : RangeState V) (more : ℕ) where
   -- with the cause `Store` one more refusal is counted, and there are fewer ranges than there may be; with the cause
-  -- `Count` so many more are more than there may be
-  abbrev pub CountsRefusal : Cause → Type 0
+  -- `Count` so many more are more than there may be; with the cause `Clone` no node was refused
+  abbrev pub CountsRefusal : RangeCause → Type 0
   CountsRefusal Store = (new.kept ≡ refused_once old.kept) × (length old.ranges < old.kept.limit)
   CountsRefusal Count = (new.kept ≡ old.kept) × (old.kept.limit < length old.ranges + more)
+  CountsRefusal Clone = ⊥
 
   -- a call that adds at most so many ranges was refused, and every range stays
-  pub record IsRefused (cause : Cause) : Type 0 where
+  pub record IsRefused (cause : RangeCause) : Type 0 where
     pub ranges : new.ranges ≡ old.ranges
     pub counts : CountsRefusal cause
 
-module _ {V : Type 0} (old new : RangeState V) where
-  -- an insertion of the numbers from `start` up to `end` was refused: it adds one range, or two if they are inside one
-  -- range, at neither of its ends
-  abbrev pub IsInsertRefused : (start end : ℕ) → Cause → Type 0
-  IsInsertRefused start end cause = IsRefused old new 1 cause ⊎ (CutsOne old.ranges start end × IsRefused old new 2 cause)
+module _ {V : Type 0} (infallible : V → Type 0) (old new : RangeState V) (start end : ℕ) where
+  -- no clone of a value was made, and nothing changes: the numbers from `start` up to `end` are inside one range, at neither
+  -- of its ends, and the clone of its value may fail
+  pub record FailsToClone (cause : RangeCause) : Type 0 where
+    pub is : cause ≡ Clone
+    pub ranges : new.ranges ≡ old.ranges
+    pub uncounted : new.kept ≡ old.kept
+    pub cut : CutsOne old.ranges start end
+    pub may_fail : infallible cut.range.1.value → ⊥
 
+  -- a removal of these numbers was refused: it adds one range, and clones a value
+  abbrev pub IsRemoveRefused : RangeCause → Type 0
+  IsRemoveRefused cause = IsRefused old new 1 cause ⊎ FailsToClone cause
+
+  -- an insertion of these numbers was refused: it adds one range, or two if they are inside one range, at neither of its ends
+  abbrev pub IsInsertRefused : RangeCause → Type 0
+  IsInsertRefused cause = IsRefused old new 1 cause ⊎ (CutsOne old.ranges start end × IsRefused old new 2 cause) ⊎ FailsToClone cause
+
+module _ {V : Type 0} (old new : RangeState V) where
   -- if there are more ranges than before, they are no more than there may be
   abbrev pub GrowsWithinLimit : Type 0
   GrowsWithinLimit = length old.ranges < length new.ranges → length new.ranges ≤ old.kept.limit
 
-module _ {V : Type 0} (old new : RangeState V) where
+module _ {V : Type 0} (infallible : V → Type 0) (old new : RangeState V) (start end : ℕ) where
   -- the last of several insertions, of these numbers, was refused, with the ranges that there are now; no other was
-  abbrev pub CountsLastRefusal : (start end : ℕ) → Cause → Type 0
-  CountsLastRefusal start end cause = IsInsertRefused (record new { kept = old.kept }) new start end cause
+  abbrev pub CountsLastRefusal : RangeCause → Type 0
+  CountsLastRefusal cause = IsInsertRefused infallible (record new { kept = old.kept }) new start end cause

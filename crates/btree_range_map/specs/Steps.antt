@@ -4,16 +4,18 @@
 -- insertion begin with, and `Assigns` is what they leave.
 use Rattle.std.specs.Prelude.{◌≡◌, ℕ, suc, ◌≤◌, ◌<◌, length, Option, Some, IsSome, slice_get}
 use Rattle.std.specs.List.{remove}
+use Rattle.std.specs.Ordering.{nat_cmp}
 use Rattle.btree_item.specs.Address.{Address}
-use Rattle.btree_item.specs.declared.refused.Cause.{Cause}
 use Rattle.btree_laws.specs.TreeState.{TreeState, IsValidIn, pairs_of}
 use Rattle.btree_find.specs.Navigation.{HasPlace, IsItemAddress, IsItemAt}
+use Rattle.btree_ext.specs.Exchange.{IsValueExchanged}
 use Rattle.btree_range_map.specs.declared.assign.Next.{Next}
 use Rattle.btree_range_map.specs.declared.assign.Next.TheVariants.{Absorbed, Overlapped, Apart}
+use Rattle.btree_range_map.specs.declared.refused.RangeCause.{RangeCause}
 use Rattle.btree_range_map.specs.declared.span.Span.{Span}
 use Rattle.btree_range_map.specs.Places.{DiffersBefore, EndsBy, IsApart, StartsFrom}
 use Rattle.btree_range_map.specs.Ranges.{AreRuns, IsAssigned, IsCleared}
-use Rattle.btree_range_map.specs.State.{GrowsWithinLimit, IsInsertRefused, IsRefused, ranges_of}
+use Rattle.btree_range_map.specs.State.{GrowsWithinLimit, IsInsertRefused, IsRefused, IsRemoveRefused, ranges_of}
 
 module _ {V : Type 0} (old new : TreeState ℕ (Span V)) where
   -- the range at a place was removed, and this is the address of the one after it
@@ -21,6 +23,11 @@ module _ {V : Type 0} (old new : TreeState ℕ (Span V)) where
     pub pairs : pairs_of new ≡ remove (pairs_of old) place
     pub next_one : IsItemAt new place next
     pub uncounted : new.kept ≡ old.kept
+
+  -- the range at the address was given another end
+  pub record SetsEnd (at : Address) (end : ℕ) : Type 0 where
+    pub span : Span V
+    pub exchanged : IsValueExchanged old new at nat_cmp span (record { end = end; value = span.value })
 
   -- the numbers from `start` up to `end` were taken out
   pub record Clears (start end : ℕ) : Type 0 where
@@ -37,12 +44,16 @@ module _ {V : Type 0} (old new : TreeState ℕ (Span V)) where
     pub bounded : GrowsWithinLimit (ranges_of old) (ranges_of new)
 
   -- a step that adds at most so many ranges was refused
-  abbrev pub IsRefusedIn : (more : ℕ) → Cause → Type 0
+  abbrev pub IsRefusedIn : (more : ℕ) → RangeCause → Type 0
   IsRefusedIn more cause = IsRefused (ranges_of old) (ranges_of new) more cause
 
   -- an insertion of the numbers from `start` up to `end` was refused
-  abbrev pub IsInsertRefusedIn : (start end : ℕ) → Cause → Type 0
-  IsInsertRefusedIn start end cause = IsInsertRefused (ranges_of old) (ranges_of new) start end cause
+  abbrev pub IsInsertRefusedIn : (infallible : V → Type 0) → (start end : ℕ) → RangeCause → Type 0
+  IsInsertRefusedIn infallible start end cause = IsInsertRefused infallible (ranges_of old) (ranges_of new) start end cause
+
+  -- a removal of them was
+  abbrev pub IsRemoveRefusedIn : (infallible : V → Type 0) → (start end : ℕ) → RangeCause → Type 0
+  IsRemoveRefusedIn infallible start end cause = IsRemoveRefused infallible (ranges_of old) (ranges_of new) start end cause
 
   -- the address of the range before this address stays
   abbrev pub KeepsBefore : Address → Type 0
@@ -137,13 +148,15 @@ module _ {V : Type 0} where
     pub differ : DiffersBefore (pairs_of s) here.place (start, span)
     pub runs : AreRuns (pairs_of s)
 
-  -- the range before the address, with the span `last`, has another value and ends inside the numbers from `start` up to
+  -- the range before the address, which ends at `end`, has another value and ends inside the numbers from `start` up to
   -- `span.end`, or where they do
-  pub record CanPutOver (s : TreeState ℕ (Span V)) (at before : Address) (start : ℕ) (span last : Span V) : Type 0 where
+  pub record CanPutOver (s : TreeState ℕ (Span V)) (at before : Address) (start : ℕ) (span : Span V) (end : ℕ) : Type 0 where
     pub here : IsPlaceFor s start at
     pub place : ℕ
     pub next : suc place ≡ here.place
     pub first : ℕ
+    pub last : Span V
+    pub ends : last.end ≡ end
     pub item : IsItemAddress s place before
     pub listed : slice_get (pairs_of s) place ≡ Some (first, last)
     pub cuts : start < last.end

@@ -1,12 +1,17 @@
 -- What an update leaves. Its action is called once at each part of the numbers that has a value, in order, and each part is
 -- given the value that the call returned. If the insertion of one is refused, those before it were given theirs.
 use Rattle.std.specs.Prelude.{◌≡◌, ℕ, ◌<◌, ◌≤◌, max, min, List, [], ◌∷◌, ◌++◌, map}
-use Rattle.btree_item.specs.declared.refused.Refused.{Refused}
+use Rattle.std.specs.Borrow.{Bor}
+use Rattle.btree_range_map.specs.declared.refused.RangeRefused.{RangeRefused}
 use Rattle.btree_range_map.specs.declared.span.Span.{Span}
 use Rattle.btree_range_map.specs.Ranges.{ranges_meeting}
 use Rattle.btree_range_map.specs.Series.{AreAssigned}
 
 module _ {V : Type 0} where
+  -- some numbers, as their start and their end, with their value, which is lent
+  abbrev pub part_now : ℕ × ℕ × Bor V → ℕ × Span V
+  part_now part = (part.0, record { end = part.1; value = part.2.now })
+
   -- what a range has of the numbers from `start` up to `end`
   abbrev pub part_between : (start end : ℕ) → ℕ × Span V → ℕ × Span V
   part_between start end range = (max start range.0, record { end = min end range.1.end; value = range.1.value })
@@ -38,7 +43,7 @@ module _ {F V : Type 0} (Step : F → V → V → F → Type 0) where
     pub assigned : AreAssigned old given new
 
   -- so were those of the first parts; for the part after them the refused value was returned, and no call was made after it
-  pub record IsUpdatedUntil (f : F) (parts old new : List (ℕ × Span V)) (refused : Refused ℕ (Span V)) : Type 0 where
+  pub record IsUpdatedUntil (f : F) (parts old new : List (ℕ × Span V)) (refused : RangeRefused (Span V)) : Type 0 where
     pub called : List (ℕ × Span V)
     pub rest : List (ℕ × Span V)
     pub split : parts ≡ called ++ rest

@@ -3,14 +3,15 @@ ghost use Rattle.std.specs.Prelude.{◌≡◌, ◌<◌, ℕ, IfErr, IfSome, OnEr
 ghost use Rattle.btree_laws.specs.TreeState.{IsOccupiedIn, pairs_of};
 ghost use Rattle.btree_find.specs.Navigation.{HasPlace, IsItemAt};
 ghost use Rattle.btree_range_map.specs.declared.span.Span.{Span};
-ghost use Rattle.btree_range_map.specs.Ranges.{AreRuns, JoinsNone, TellsSame};
+ghost use Rattle.btree_range_map.specs.Ranges.{AreRuns, ClonesEqual, JoinsNone, TellsSame};
 ghost use Rattle.btree_range_map.specs.Steps.{Assigns, CanAbsorb, CanPut, CanPutOver, IsInsertRefusedIn, IsPlaceFor, IsRefusedIn, KeepsBefore, Meets, Overlaps};
 
-use crate::Span;
-use crate::edits::take_range;
+use crate::edits::{set_end, take_range};
+use crate::refused::refused_by_node;
 use crate::split::split;
+use crate::{RangeCause, RangeRefused, Span};
 use btree_ext::{BTreeExt, BTreeExtMut};
-use btree_item::{Address, Item, Refused};
+use btree_item::{Address, Item};
 use btree_map::BTreeMap;
 use btree_node::NodesMut;
 
@@ -24,38 +25,40 @@ enum Next {
     Apart,
 }
 
-// Returns what the range at an address, if there is one, does to numbers before it that end at `span.end`, with the value `span.value`.
-fn meets<V: Copy + Eq, C: NodesMut<u64, Span<V>>>(
+// Returns what the range at an address, if there is one, does to numbers before it that end at `end`, with a value.
+fn meets<V: Clone + Eq, C: NodesMut<u64, Span<V>>>(
     map: &BTreeMap<u64, Span<V>, C>,
     at: Option<Address>,
-    span: &Span<V>,
+    end: u64,
+    value: &V,
 ) -> Next
     requires occupied { IfSome at (IsOccupiedIn map.now) }
     requires same { TellsSame V.eq }
-    ensures { (place : ℕ) → IsItemAt map.now place at → Meets map.now place span.now result }
+    ensures { (place : ℕ) → IsItemAt map.now place at →
+        Meets map.now place (record { end = end; value = value.now }) result }
 {
     let Some(at) = at else {
         return Next::Apart;
     };
     let (first, next) = map.pair_at(at);
-    if next.value == span.value {
-        if *first <= span.end {
-            return Next::Absorbed(at, span.end.max(next.end));
+    if next.value == *value {
+        if *first <= end {
+            return Next::Absorbed(at, end.max(next.end));
         }
         return Next::Apart;
     }
-    if span.end <= *first {
+    if end <= *first {
         return Next::Apart;
     }
-    if next.end <= span.end {
-        return Next::Absorbed(at, span.end);
+    if next.end <= end {
+        return Next::Absorbed(at, end);
     }
     Next::Overlapped(at)
 }
 
 // Makes the range at an address, which is inside the numbers from `start` up to `span.end`, the range of these numbers with their value. It
 // takes in the ranges after it that meet them, or touch them with their value. It needs no new node.
-fn absorb<V: Copy + Eq, C: NodesMut<u64, Span<V>>>(
+fn absorb<V: Clone + Eq, C: NodesMut<u64, Span<V>>>(
     map: &mut BTreeMap<u64, Span<V>, C>,
     at: Address,
     start: u64,
@@ -65,12 +68,11 @@ fn absorb<V: Copy + Eq, C: NodesMut<u64, Span<V>>>(
     requires same { TellsSame V.eq }
     ensures { Assigns map.old map.new start span }
 {
-    let value = span.value;
+    let Span { mut end, value } = span;
     let mut at = at;
-    let mut end = span.end;
     loop {
         let next = map.next_item_address(at);
-        match meets(map, next, &Span { end, value }) {
+        match meets(map, next, end, &value) {
             Next::Absorbed(_, last) => {
                 let Some(next) = take_range(map, at) else {
                     unreachable!()
@@ -93,13 +95,13 @@ fn absorb<V: Copy + Eq, C: NodesMut<u64, Span<V>>>(
 
 // Puts the range from `start` with `span` at an address, where the range at its place overlaps it: that one then begins at `span.end`. If the
 // new one is refused, it begins again where it did.
-fn put_before<V: Copy + Eq, C: NodesMut<u64, Span<V>>>(
+fn put_before<V: Clone + Eq, C: NodesMut<u64, Span<V>>>(
     map: &mut BTreeMap<u64, Span<V>, C>,
     at: Address,
     next: Address,
     start: u64,
     span: Span<V>,
-) -> Result<(), Refused<u64, Span<V>>>
+) -> Result<(), RangeRefused<Span<V>>>
     requires can { CanPut map.old at start span }
     requires next { (place : ℕ) → HasPlace map.old at place →
         (rest : Span V) × Overlaps map.old place span next rest }
@@ -113,18 +115,18 @@ fn put_before<V: Copy + Eq, C: NodesMut<u64, Span<V>>>(
         Ok(_at) => Ok(()),
         Err(refused) => {
             map.replace_key_at(next, first);
-            Err(refused)
+            Err(refused_by_node(refused))
         }
     }
 }
 
 // Puts the range from `start` with `span` at an address. It takes in the ranges from there on that meet it, or touch it with its value.
-fn put<V: Copy + Eq, C: NodesMut<u64, Span<V>>>(
+fn put<V: Clone + Eq, C: NodesMut<u64, Span<V>>>(
     map: &mut BTreeMap<u64, Span<V>, C>,
     at: Address,
     start: u64,
     span: Span<V>,
-) -> Result<(), Refused<u64, Span<V>>>
+) -> Result<(), RangeRefused<Span<V>>>
     requires can { CanPut map.old at start span }
     requires same { TellsSame V.eq }
     ensures assigned { OnOk result (Assigns map.old map.new start span) }
@@ -134,7 +136,7 @@ fn put<V: Copy + Eq, C: NodesMut<u64, Span<V>>>(
     ensures cause { IfErr result (λ r. IsRefusedIn map.old map.new 1 r.cause) }
 {
     let next = map.normalize(at);
-    match meets(map, next, &span) {
+    match meets(map, next, span.end, &span.value) {
         Next::Absorbed(next, end) => {
             let value = span.value;
             absorb(map, next, start, Span { end, value });
@@ -143,41 +145,40 @@ fn put<V: Copy + Eq, C: NodesMut<u64, Span<V>>>(
         Next::Overlapped(next) => put_before(map, at, next, start, span),
         Next::Apart => match map.insert_at(at, Item::new(start, span)) {
             Ok(_at) => Ok(()),
-            Err(refused) => Err(refused),
+            Err(refused) => Err(refused_by_node(refused)),
         },
     }
 }
 
-// Does the same where the range before the address, with the span `last`, ends inside the new one: that one then ends at `start`. If the new
-// one is refused, it ends again where it did.
-fn put_over<V: Copy + Eq, C: NodesMut<u64, Span<V>>>(
+// Does the same where the range before the address ends inside the new one, at `end`: that one then ends at `start`. If the new one is
+// refused, it ends again where it did.
+fn put_over<V: Clone + Eq, C: NodesMut<u64, Span<V>>>(
     map: &mut BTreeMap<u64, Span<V>, C>,
     at: Address,
     before: Address,
     start: u64,
     span: Span<V>,
-    last: Span<V>,
-) -> Result<(), Refused<u64, Span<V>>>
-    requires can { CanPutOver map.old at before start span last }
+    end: u64,
+) -> Result<(), RangeRefused<Span<V>>>
+    requires can { CanPutOver map.old at before start span end }
     requires same { TellsSame V.eq }
     ensures assigned { OnOk result (Assigns map.old map.new start span) }
     ensures returned { IfErr result (λ r. (r.key ≡ start) × (r.value ≡ span)) }
     ensures joins_none { OnErr result (JoinsNone (pairs_of map.old) start span.end span.value) }
     ensures cause { IfErr result (λ r. IsRefusedIn map.old map.new 1 r.cause) }
 {
-    let value = last.value;
-    map.replace_value_at(before, Span { end: start, value });
+    set_end(map, before, start);
     match put(map, at, start, span) {
         Ok(()) => Ok(()),
         Err(refused) => {
-            map.replace_value_at(before, last);
+            set_end(map, before, end);
             Err(refused)
         }
     }
 }
 
 // Returns the address of the range that starts at a number, or else that of the gap where it would be.
-fn place_for<V: Copy + Eq, C: NodesMut<u64, Span<V>>>(
+fn place_for<V: Clone + Eq, C: NodesMut<u64, Span<V>>>(
     map: &BTreeMap<u64, Span<V>, C>,
     number: u64,
 ) -> Address
@@ -189,26 +190,28 @@ fn place_for<V: Copy + Eq, C: NodesMut<u64, Span<V>>>(
     }
 }
 
-/// Gives the numbers from `start` up to `span.end` a value. There is at least one.
-pub(crate) fn assign<V: Copy + Eq, C: NodesMut<u64, Span<V>>>(
+/// Gives the numbers from `start` up to `span.end` a value. There is at least one. Where they cut a range in two, its value is cloned first.
+pub(crate) fn assign<V: Clone + Eq, C: NodesMut<u64, Span<V>>>(
     map: &mut BTreeMap<u64, Span<V>, C>,
     start: u64,
     span: Span<V>,
-) -> Result<(), Refused<u64, Span<V>>>
+) -> Result<(), RangeRefused<Span<V>>>
     requires same { TellsSame V.eq }
+    requires clones { ClonesEqual V.is_clone }
     requires some { start < span.end }
     requires runs { AreRuns (pairs_of map.old) }
     ensures assigned { OnOk result (Assigns map.old map.new start span) }
     ensures returned { IfErr result (λ r. (r.key ≡ start) × (r.value ≡ span)) }
     ensures joins_none { OnErr result (JoinsNone (pairs_of map.old) start span.end span.value) }
-    ensures cause { IfErr result (λ r. IsInsertRefusedIn map.old map.new start span.end r.cause) }
+    ensures cause { IfErr result (λ r.
+        IsInsertRefusedIn map.old map.new V.is_infallible start span.end r.cause) }
 {
     let at = place_for(map, start);
     let Some(before) = map.previous_item_address(at) else {
         return put(map, at, start, span);
     };
     let (first, last) = map.pair_at(before);
-    let (first, last) = (*first, *last);
+    let first = *first;
     if last.end < start {
         return put(map, at, start, span);
     }
@@ -222,7 +225,18 @@ pub(crate) fn assign<V: Copy + Eq, C: NodesMut<u64, Span<V>>>(
         return put(map, at, start, span);
     }
     if span.end < last.end {
-        return split(map, at, start, span, last);
+        let rest = match last.clone() {
+            Ok(rest) => rest,
+            Err(_) => {
+                return Err(RangeRefused {
+                    cause: RangeCause::Clone,
+                    key: start,
+                    value: span,
+                });
+            }
+        };
+        return split(map, at, start, span, rest);
     }
-    put_over(map, at, before, start, span, last)
+    let end = last.end;
+    put_over(map, at, before, start, span, end)
 }

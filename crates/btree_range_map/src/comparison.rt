@@ -10,7 +10,7 @@ use btree_ext::BTreeExt;
 use btree_node::{CloneNodes, NodesMut};
 use std::alloc::AllocError;
 
-impl<V: Copy + Eq, C: NodesMut<u64, Span<V>>> RangeMap<V, C> {
+impl<V: Clone + Eq, C: NodesMut<u64, Span<V>>> RangeMap<V, C> {
     /// Returns whether two maps, which may have different stores, give each number the same value. It compares each range once, up to the
     /// first that differs.
     pub fn same_values<D: NodesMut<u64, Span<V>>>(&self, other: &RangeMap<V, D>) -> bool
@@ -22,7 +22,7 @@ impl<V: Copy + Eq, C: NodesMut<u64, Span<V>>> RangeMap<V, C> {
     }
 }
 
-impl<V: Copy + Eq, C: CloneNodes<u64, Span<V>>> RangeMap<V, C> {
+impl<V: Clone + Eq, C: CloneNodes<u64, Span<V>>> RangeMap<V, C> {
     /// Returns a map of the same ranges. Its store has refused no node yet. It fails only if the clone of the store fails.
     pub fn clone(&self) -> Result<Self, AllocError>
         ensures ranges { IfOk result (λ copy. copy.ranges ≡ self.now.ranges) }
@@ -36,7 +36,7 @@ impl<V: Copy + Eq, C: CloneNodes<u64, Span<V>>> RangeMap<V, C> {
     }
 }
 
-impl<V: Copy + Eq, C: NodesMut<u64, Span<V>>> PartialEq for RangeMap<V, C> {
+impl<V: Clone + Eq, C: NodesMut<u64, Span<V>>> PartialEq for RangeMap<V, C> {
     ghost eq = { λ s t. ranges_eq V.eq s.ranges t.ranges };
 
     ghost laws = { on_per (λ s. s.ranges) (partial_equiv_from_equiv (ranges-equiv V.Eq.laws)) };
@@ -46,6 +46,6 @@ impl<V: Copy + Eq, C: NodesMut<u64, Span<V>>> PartialEq for RangeMap<V, C> {
     }
 }
 
-impl<V: Copy + Eq, C: NodesMut<u64, Span<V>>> Eq for RangeMap<V, C> {
+impl<V: Clone + Eq, C: NodesMut<u64, Span<V>>> Eq for RangeMap<V, C> {
     ghost laws = { on_equiv (λ s. s.ranges) (ranges-equiv V.Eq.laws) };
 }

@@ -5,12 +5,11 @@ ghost use Rattle.btree_range_map.specs.Ranges.{JoinsNone};
 ghost use Rattle.btree_range_map.specs.Series.{InsertsRanges, InsertsRangesUntil};
 ghost use Rattle.btree_range_map.specs.State.{CountsLastRefusal, GrowsWithinLimit};
 
-use crate::{RangeMap, Span};
-use btree_item::Refused;
+use crate::{RangeMap, RangeRefused, Span};
 use btree_node::NodesMut;
 use std::iter::Iterator;
 
-impl<V: Copy + Eq, C: NodesMut<u64, Span<V>>> RangeMap<V, C> {
+impl<V: Clone + Eq, C: NodesMut<u64, Span<V>>> RangeMap<V, C> {
     /// Inserts the ranges that `source` gives, each as its start and its span, in order, as `insert` does. Returns the first one that is
     /// refused: those before it are in the map, and those after it are still in `source`.
     ///
@@ -18,7 +17,7 @@ impl<V: Copy + Eq, C: NodesMut<u64, Span<V>>> RangeMap<V, C> {
     pub fn extend<I: Iterator<Item = (u64, Span<V>)>>(
         &mut self,
         source: &mut I,
-    ) -> Result<(), Refused<u64, Span<V>>>
+    ) -> Result<(), RangeRefused<Span<V>>>
         requires can_step { I.can_next source.old }
         requires ends { IsFinite (I.remaining source.old) }
         ensures extended { OnOk result
@@ -31,7 +30,7 @@ impl<V: Copy + Eq, C: NodesMut<u64, Span<V>>> RangeMap<V, C> {
         ensures joins_none { IfErr result (λ r.
             JoinsNone self.new.ranges r.key r.value.end r.value.value) }
         ensures cause { IfErr result (λ r.
-            CountsLastRefusal self.old self.new r.key r.value.end r.cause) }
+            CountsLastRefusal V.is_infallible self.old self.new r.key r.value.end r.cause) }
         ensures may_go_on { OnErr result (I.can_next source.new) }
         ensures still_ends { OnErr result (IsFinite (I.remaining source.new)) }
     {

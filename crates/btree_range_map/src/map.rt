@@ -6,14 +6,13 @@ ghost use Rattle.std.specs.Mem.{FitsInMemory};
 ghost use Rattle.btree_node.specs.contracts.node.Node.{the_row as node_row};
 ghost use Rattle.btree_laws.specs.TreeState.{limited_to, unlimited};
 ghost use Rattle.btree_range_map.specs.contracts.span.Span.{the_row as span_row};
-ghost use Rattle.btree_range_map.specs.Ranges.{CutsOne, IsAssigned, IsCleared, JoinsNone, TellsSame};
-ghost use Rattle.btree_range_map.specs.State.{GrowsWithinLimit, HoldsRanges, IsInsertRefused, IsRefused};
+ghost use Rattle.btree_range_map.specs.Ranges.{ClonesEqual, CutsOne, IsAssigned, IsCleared, JoinsNone, TellsSame};
+ghost use Rattle.btree_range_map.specs.State.{GrowsWithinLimit, HoldsRanges, IsInsertRefused, IsRemoveRefused};
 
-use crate::Span;
 use crate::assign::assign;
 use crate::edits::subtract;
+use crate::{RangeRefused, Span};
 use btree_ext::BTreeExt;
-use btree_item::Refused;
 use btree_map::BTreeMap;
 use btree_node::{ClearNodes, NodesMut};
 use std::marker::Model;
@@ -24,15 +23,15 @@ use std::marker::Model;
 /// A look-up of a number makes at most six comparisons at each level, and one more. Only a call that may add a range, and `clone`,
 /// allocates memory. An insertion may add two, where it makes three of a range, and a removal one, where it makes two.
 #[derive(Drop)]
-pub struct RangeMap<V: Copy + Eq, C: NodesMut<u64, Span<V>>> {
+pub struct RangeMap<V: Clone + Eq, C: NodesMut<u64, Span<V>>> {
     /// From the start of each range to its end and value.
     pub(crate) map: BTreeMap<u64, Span<V>, C>,
 }
 
-impl<V: Copy + Eq, C: NodesMut<u64, Span<V>>> Model for RangeMap<V, C> {
+impl<V: Clone + Eq, C: NodesMut<u64, Span<V>>> Model for RangeMap<V, C> {
     ghost use Rattle.std.specs.Coded.{codes};
     ghost use Rattle.btree_laws.specs.TreeState.{pairs_of};
-    ghost use Rattle.btree_range_map.specs.Ranges.{AreRuns, TellsSame};
+    ghost use Rattle.btree_range_map.specs.Ranges.{AreRuns, ClonesEqual, TellsSame};
     ghost use Rattle.btree_range_map.specs.State.{RangeState, range_code, ranges_of};
 
     ghost Value = { RangeState V };
@@ -41,16 +40,19 @@ impl<V: Copy + Eq, C: NodesMut<u64, Span<V>>> Model for RangeMap<V, C> {
 
     ghost view = { λ a. ranges_of a.map };
 
-    ghost invariant = { λ a. AreRuns (pairs_of a.map) × TellsSame V.eq };
+    ghost invariant = { λ a.
+        AreRuns (pairs_of a.map) × TellsSame V.eq × ClonesEqual V.is_clone };
 }
 
-impl<V: Copy + Eq, C: NodesMut<u64, Span<V>>> RangeMap<V, C> {
+impl<V: Clone + Eq, C: NodesMut<u64, Span<V>>> RangeMap<V, C> {
     /// Returns a map without numbers, over an empty store made from `origin`.
     ///
-    /// The contract requires that a node fits in memory, and that `==` tells whether two values are the same, as a derived one does.
+    /// The contract requires that a node fits in memory, that `==` tells whether two values are the same, as a derived one does, and that a clone of
+    /// a value is equal to it.
     pub fn new(origin: C::Origin) -> Self
         requires fits { FitsInMemory (node_row u64 (span_row V.row)) }
         requires same { TellsSame V.eq }
+        requires clones { ClonesEqual V.is_clone }
         ensures empty { result.ranges ≡ [] }
         ensures uncounted { result.kept ≡ unlimited 0 }
     {
@@ -65,6 +67,7 @@ impl<V: Copy + Eq, C: NodesMut<u64, Span<V>>> RangeMap<V, C> {
     pub fn with_limit(origin: C::Origin, limit: usize) -> Self
         requires fits { FitsInMemory (node_row u64 (span_row V.row)) }
         requires same { TellsSame V.eq }
+        requires clones { ClonesEqual V.is_clone }
         ensures empty { result.ranges ≡ [] }
         ensures uncounted { result.kept ≡ limited_to limit }
     {
@@ -79,6 +82,7 @@ impl<V: Copy + Eq, C: NodesMut<u64, Span<V>>> RangeMap<V, C> {
     pub fn in_store(nodes: C) -> Self
         requires fits { FitsInMemory (node_row u64 (span_row V.row)) }
         requires same { TellsSame V.eq }
+        requires clones { ClonesEqual V.is_clone }
         requires empty { map.len (C.content nodes) ≡ 0 }
         ensures empty { result.ranges ≡ [] }
         ensures kept { result.kept ≡ unlimited (C.refusals nodes) }
@@ -115,9 +119,10 @@ impl<V: Copy + Eq, C: NodesMut<u64, Span<V>>> RangeMap<V, C> {
     /// equal values become one. If `start` is at least `end`, nothing changes.
     ///
     /// If a range is inside these numbers, or one with this value meets or touches them, it needs no new node and cannot fail. Otherwise it adds
-    /// one range, or two if the numbers are inside one range: it returns an error, with `start`, `end` and the value, if the store refuses a
-    /// node that is needed, or if there would be more ranges than there may be.
-    pub fn insert(&mut self, start: u64, end: u64, value: V) -> Result<(), Refused<u64, Span<V>>>
+    /// one range, or two if the numbers are inside one range, whose value is then cloned once, before anything changes. It returns an error,
+    /// with `start`, `end` and the value, if the store refuses a node that is needed, if there would be more ranges than there may be, or if the
+    /// clone fails.
+    pub fn insert(&mut self, start: u64, end: u64, value: V) -> Result<(), RangeRefused<Span<V>>>
         ensures assigned { OnOk result
             (IsAssigned self.old.ranges start end value self.new.ranges) }
         ensures uncounted { OnOk result (self.new.kept ≡ self.old.kept) }
@@ -126,7 +131,8 @@ impl<V: Copy + Eq, C: NodesMut<u64, Span<V>>> RangeMap<V, C> {
         ensures returned { IfErr result (λ r.
             (r.key ≡ start) × (r.value.end ≡ end) × (r.value.value ≡ value)) }
         ensures joins_none { OnErr result (JoinsNone self.old.ranges start end value) }
-        ensures cause { IfErr result (λ r. IsInsertRefused self.old self.new start end r.cause) }
+        ensures cause { IfErr result (λ r.
+            IsInsertRefused V.is_infallible self.old self.new start end r.cause) }
     {
         if end <= start {
             return Ok(());
@@ -136,16 +142,18 @@ impl<V: Copy + Eq, C: NodesMut<u64, Span<V>>> RangeMap<V, C> {
 
     /// Removes the numbers from `start` up to `end`, which is not removed. If `start` is at least `end`, nothing changes.
     ///
-    /// It fails only if the numbers are inside one range, which then would become two: it returns an error, with `start` and `end`, if the
-    /// store refuses a node that is needed, or if the number of ranges has reached its limit.
-    pub fn remove(&mut self, start: u64, end: u64) -> Result<(), Refused<u64, u64>>
+    /// It fails only if the numbers are inside one range, which then would become two, and whose value is cloned once, before anything changes:
+    /// it returns an error, with `start` and `end`, if the store refuses a node that is needed, if the number of ranges has reached its limit, or
+    /// if the clone fails.
+    pub fn remove(&mut self, start: u64, end: u64) -> Result<(), RangeRefused<u64>>
         ensures cleared { OnOk result (IsCleared self.old.ranges start end self.new.ranges) }
         ensures uncounted { OnOk result (self.new.kept ≡ self.old.kept) }
         ensures bounded { OnOk result (GrowsWithinLimit self.old self.new) }
 
         ensures returned { IfErr result (λ r. (r.key ≡ start) × (r.value ≡ end)) }
         ensures cuts_one { OnErr result (CutsOne self.old.ranges start end) }
-        ensures cause { IfErr result (λ r. IsRefused self.old self.new 1 r.cause) }
+        ensures cause { IfErr result (λ r.
+            IsRemoveRefused V.is_infallible self.old self.new start end r.cause) }
     {
         if end <= start {
             return Ok(());
@@ -154,7 +162,7 @@ impl<V: Copy + Eq, C: NodesMut<u64, Span<V>>> RangeMap<V, C> {
     }
 }
 
-impl<V: Copy + Eq, C: ClearNodes<u64, Span<V>>> RangeMap<V, C> {
+impl<V: Clone + Eq, C: ClearNodes<u64, Span<V>>> RangeMap<V, C> {
     /// Removes all numbers. The count of refusals stays.
     pub fn clear(&mut self)
         ensures empty { self.new.ranges ≡ [] }

@@ -7,7 +7,7 @@ ghost use Rattle.btree_range_map.specs.Ranges.{IsCleared};
 use crate::{RangeMap, Span};
 use btree_node::NodesMut;
 
-impl<V: Copy + Eq, C: NodesMut<u64, Span<V>>> RangeMap<V, C> {
+impl<V: Clone + Eq, C: NodesMut<u64, Span<V>>> RangeMap<V, C> {
     /// Removes the first range, and returns it. Returns `None`, and nothing changes, if there are no numbers.
     ///
     /// It compares no numbers, needs no new node and cannot fail.

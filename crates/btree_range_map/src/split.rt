@@ -2,37 +2,23 @@
 ghost use Rattle.std.specs.Prelude.{◌≡◌, IfErr, OnOk};
 ghost use Rattle.btree_range_map.specs.Steps.{Assigns, CanSplit, IsRefusedIn};
 
-use crate::Span;
+use crate::edits::set_end;
+use crate::refused::{refused_as, refused_by_node};
+use crate::{RangeRefused, Span};
 use btree_ext::{BTreeExt, BTreeExtMut};
-use btree_item::{Address, Item, Refused};
+use btree_item::{Address, Item};
 use btree_map::BTreeMap;
 use btree_node::NodesMut;
 
-/// The refusal of a call with these numbers and this value.
-pub(crate) fn refused_as<V: Copy + Eq>(
-    refused: Refused<u64, Span<V>>,
-    start: u64,
-    span: Span<V>,
-) -> Refused<u64, Span<V>>
-    ensures cause { result.cause ≡ refused.cause }
-    ensures numbers { (result.key ≡ start) × (result.value ≡ span) }
-{
-    Refused {
-        cause: refused.cause,
-        key: start,
-        value: span,
-    }
-}
-
-/// Gives the numbers from `start` up to `span.end` a value inside the range before an address, which goes on past them on both sides with
-/// the value `last.value`. Two ranges are added. If the second is refused, the first is removed again.
-pub(crate) fn split<V: Copy + Eq, C: NodesMut<u64, Span<V>>>(
+/// Gives the numbers from `start` up to `span.end` a value inside the range before an address, which goes on past them on both sides. `last` is
+/// a clone of its span. Two ranges are added. If the second is refused, the first is removed again.
+pub(crate) fn split<V: Clone + Eq, C: NodesMut<u64, Span<V>>>(
     map: &mut BTreeMap<u64, Span<V>, C>,
     at: Address,
     start: u64,
     span: Span<V>,
     last: Span<V>,
-) -> Result<(), Refused<u64, Span<V>>>
+) -> Result<(), RangeRefused<Span<V>>>
     requires { CanSplit map.old at start span last }
     ensures assigned { OnOk result (Assigns map.old map.new start span) }
     ensures returned { IfErr result (λ r. (r.key ≡ start) × (r.value ≡ span)) }
@@ -44,20 +30,14 @@ pub(crate) fn split<V: Copy + Eq, C: NodesMut<u64, Span<V>>>(
                 let Some(left) = map.previous_item_address(middle) else {
                     unreachable!()
                 };
-                map.replace_value_at(
-                    left,
-                    Span {
-                        end: start,
-                        value: last.value,
-                    },
-                );
+                set_end(map, left, start);
                 Ok(())
             }
             Err(refused) => {
                 let Some((_range, _gap)) = map.remove_at(right) else {
                     unreachable!()
                 };
-                Err(refused)
+                Err(refused_by_node(refused))
             }
         },
         Err(refused) => Err(refused_as(refused, start, span)),

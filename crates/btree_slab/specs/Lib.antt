@@ -60,6 +60,7 @@ pub use Rattle.btree_owned_walk.specs.Leaving
 pub use Rattle.btree_range_map.specs.Gaps as RangeMapGaps
 pub use Rattle.btree_range_map.specs.Places as RangeMapPlaces
 pub use Rattle.btree_range_map.specs.Ranges as RangeMapRanges
+pub use Rattle.btree_range_map.specs.Refusals as RangeMapRefusals
 pub use Rattle.btree_range_map.specs.SameRanges as RangeMapSame
 pub use Rattle.btree_range_map.specs.Series as RangeMapSeries
 pub use Rattle.btree_range_map.specs.State as RangeMapState

@@ -93,7 +93,7 @@ pub mod range_set {
 
 /// Maps from numbers to values as disjoint ranges over a map, and their iterators.
 pub mod range_map {
-    pub use btree_range_map::{Gaps, Iter, Overlapping, RangeMap, Span};
+    pub use btree_range_map::{Gaps, Iter, Overlapping, RangeCause, RangeMap, RangeRefused, Span};
 }
 
 /// What a key may be sought by beside a key: a text or a slice, and the places beside a key, beside a first part and at the ends.

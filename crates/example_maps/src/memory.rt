@@ -1,10 +1,9 @@
 //! The memory of a machine, and who owns which addresses: a map of ranges. Two regions of one owner that touch are one region.
 ghost use Rattle.std.specs.Prelude.{◌≡◌, ◌+◌, IfNone, IfOk, IfSome, None, OnErr, OnOk};
-ghost use Rattle.btree_slab.specs.RangeMapRanges.{IsAssigned, IsCleared, IsMaximalRun, value_at};
+ghost use Rattle.btree_slab.specs.RangeMapRanges.{IsAssigned, IsCleared, IsMaximalRun, range_now, value_at};
 ghost use Rattle.example_maps.specs.Memory.{AreFreeBelow, HasNoRoom, Reserves};
 
-use btree_slab::generic::map::Refused;
-use btree_slab::range_map::{RangeMap, Span};
+use btree_slab::range_map::{RangeMap, RangeRefused, Span};
 use btree_slab::store::NodesMut;
 
 /// Who owns an address.
@@ -42,7 +41,7 @@ pub fn reserve<C: NodesMut<u64, Span<Owner>>>(
     size: u64,
     end: u64,
     owner: Owner,
-) -> Result<Option<u64>, Refused<u64, Span<Owner>>>
+) -> Result<Option<u64>, RangeRefused<Span<Owner>>>
     ensures reserved { IfOk result (Reserves end size owner memory.old memory.new) }
     ensures kept { OnErr result (memory.new.ranges ≡ memory.old.ranges) }
 {
@@ -59,7 +58,7 @@ pub fn give<C: NodesMut<u64, Span<Owner>>>(
     start: u64,
     end: u64,
     owner: Owner,
-) -> Result<(), Refused<u64, Span<Owner>>>
+) -> Result<(), RangeRefused<Span<Owner>>>
     ensures given { OnOk result
         (IsAssigned memory.old.ranges start end owner memory.new.ranges) }
     ensures kept { OnErr result (memory.new.ranges ≡ memory.old.ranges) }
@@ -72,7 +71,7 @@ pub fn release<C: NodesMut<u64, Span<Owner>>>(
     memory: &mut RangeMap<Owner, C>,
     start: u64,
     end: u64,
-) -> Result<(), Refused<u64, u64>>
+) -> Result<(), RangeRefused<u64>>
     ensures freed { OnOk result (IsCleared memory.old.ranges start end memory.new.ranges) }
     ensures kept { OnErr result (memory.new.ranges ≡ memory.old.ranges) }
 {
@@ -86,15 +85,15 @@ pub fn owner_of<C: NodesMut<u64, Span<Owner>>>(
 ) -> Option<Owner>
     ensures { result ≡ value_at memory.now.ranges address }
 {
-    memory.get(address)
+    memory.get(address).copied()
 }
 
 /// Returns the whole region around an address: all addresses beside it that have its owner. Returns `None` if it is free.
 pub fn region_of<C: NodesMut<u64, Span<Owner>>>(
     memory: &RangeMap<Owner, C>,
     address: u64,
-) -> Option<(u64, Span<Owner>)>
-    ensures whole { IfSome result (IsMaximalRun memory.now.ranges) }
+) -> Option<(u64, &Span<Owner>)>
+    ensures whole { IfSome result (λ region. IsMaximalRun memory.now.ranges (range_now region)) }
     ensures free { IfNone result (value_at memory.now.ranges address ≡ None) }
 {
     memory.get_range(address)

@@ -2,10 +2,9 @@
 ghost use Rattle.std.specs.Prelude.{◌≡◌};
 
 use crate::asserts::{assert_same, assert_true};
-use btree_item::{Cause, Refused};
 use btree_more_stores::FixedSlab;
 use btree_node::{ClearNodes, Node, NodesMut};
-use btree_range_map::{RangeMap, Span};
+use btree_range_map::{RangeCause, RangeMap, RangeRefused, Span};
 use btree_store::SlabStore;
 use std::process::Abort;
 
@@ -24,15 +23,23 @@ pub(crate) fn range(start: u64, end: u64, value: u64) -> (u64, Span<u64>)
     (start, Span { end, value })
 }
 
-// Passes the next range of an iterator, and returns it.
-pub(crate) fn step<I: Iterator<Item = (u64, Span<u64>)>>(ranges: &mut I) -> Option<(u64, Span<u64>)>
+// Returns a copy of a range that a map gave.
+pub(crate) fn copied<V: Copy>(range: Option<(u64, &Span<V>)>) -> Option<(u64, Span<V>)> {
+    match range {
+        Some((start, span)) => Some((start, *span)),
+        None => None,
+    }
+}
+
+// Passes the next range of an iterator, and returns a copy of it.
+fn step<'a, I: Iterator<Item = (u64, &'a Span<u64>)>>(ranges: &mut I) -> Option<(u64, Span<u64>)>
     requires { (state : I) → I.can_next state }
 {
-    ranges.next()
+    copied(ranges.next())
 }
 
 // Checks that an iterator gives exactly these ranges.
-pub(crate) fn check_listed<I: Iterator<Item = (u64, Span<u64>)> + Drop>(
+pub(crate) fn check_listed<'a, I: Iterator<Item = (u64, &'a Span<u64>)> + Drop>(
     rt: &impl Abort,
     ranges: I,
     expected: &[(u64, u64, u64)],
@@ -59,7 +66,7 @@ pub(crate) fn check_ranges<C: NodesMut<u64, Span<u64>>>(
         Some((start, end, value)) => Some(range(start, end, value)),
         None => None,
     };
-    assert_same(rt, map.iter().next_back(), last);
+    assert_same(rt, copied(map.iter().next_back()), last);
 }
 
 // A call that changes a map: an insertion of a value, or a removal.
@@ -69,10 +76,10 @@ pub(crate) type Call = (u64, u64, Option<u64>);
 #[derive(Clone, Copy, Debug, PartialEq, Drop)]
 pub(crate) enum Outcome {
     Done,
-    Refused(Cause, Call),
+    Refused(RangeCause, Call),
 }
 
-fn of_insertion(outcome: Result<(), Refused<u64, Span<u64>>>) -> Outcome {
+fn of_insertion(outcome: Result<(), RangeRefused<Span<u64>>>) -> Outcome {
     match outcome {
         Ok(()) => Outcome::Done,
         Err(refused) => {
@@ -82,7 +89,7 @@ fn of_insertion(outcome: Result<(), Refused<u64, Span<u64>>>) -> Outcome {
     }
 }
 
-fn of_removal(outcome: Result<(), Refused<u64, u64>>) -> Outcome {
+fn of_removal(outcome: Result<(), RangeRefused<u64>>) -> Outcome {
     match outcome {
         Ok(()) => Outcome::Done,
         Err(refused) => Outcome::Refused(refused.cause, (refused.key, refused.value, None)),

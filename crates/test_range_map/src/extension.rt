@@ -1,10 +1,16 @@
 //! Maps that are extended by the ranges of an iterator.
 use crate::asserts::{assert_same, assert_true};
-use crate::checks::{Heap, check_ranges, range, step};
-use btree_item::Cause;
+use crate::checks::{Heap, check_ranges, range};
 use btree_node::NodesMut;
-use btree_range_map::{RangeMap, Span};
+use btree_range_map::{RangeCause, RangeMap, Span};
 use std::process::Abort;
+
+// Passes the next range of an iterator, and returns it.
+fn step<I: Iterator<Item = (u64, Span<u64>)>>(ranges: &mut I) -> Option<(u64, Span<u64>)>
+    requires { (state : I) → I.can_next state }
+{
+    ranges.next()
+}
 
 // The ranges come in any order. They may overlap, touch and be empty, and the last one that has a number gives it its value.
 fn extend_twice<C: NodesMut<u64, Span<u64>> + Drop>(rt: &impl Abort, origin: C::Origin) {
@@ -47,7 +53,7 @@ fn extend_a_full_map<C: NodesMut<u64, Span<u64>> + Drop>(
         Ok(()) => panic!(rt; "not refused"),
         Err(refused) => {
             assert_same(rt, (refused.key, refused.value), range(3, 4, 3));
-            assert_same(rt, refused.cause, Cause::Count);
+            assert_same(rt, refused.cause, RangeCause::Count);
         }
     }
     check_ranges(rt, &map, &[(1, 3, 2), (5, 9, 1)]);

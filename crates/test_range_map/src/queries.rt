@@ -1,6 +1,6 @@
 //! The value of a number, the range around it, and the ranges and gaps among some numbers.
 use crate::asserts::assert_same;
-use crate::checks::{Heap, Ranges, check_listed, fill, range};
+use crate::checks::{Heap, Ranges, check_listed, copied, fill, range};
 use btree_node::{ClearNodes, NodesMut};
 use btree_range_map::{RangeMap, Span};
 use std::process::Abort;
@@ -52,15 +52,19 @@ fn ask_four<C: ClearNodes<u64, Span<u64>> + Drop>(rt: &impl Abort, origin: C::Or
             Some((start, end, value)) => (Some(range(start, end, value)), Some(value)),
             None => (None, None),
         };
-        assert_same(rt, (number, map.get_range(number)), (number, found));
+        assert_same(rt, (number, copied(map.get_range(number))), (number, found));
         assert_same(
             rt,
-            (number, map.get(number), map.contains(number)),
+            (number, map.get(number).copied(), map.contains(number)),
             (number, value, value.is_some()),
         );
     }
-    assert_same(rt, map.first(), Some(range(1, 4, 7)));
-    assert_same(rt, map.last(), Some(range(u64::MAX - 2, u64::MAX, 9)));
+    assert_same(rt, copied(map.first()), Some(range(1, 4, 7)));
+    assert_same(
+        rt,
+        copied(map.last()),
+        Some(range(u64::MAX - 2, u64::MAX, 9)),
+    );
     // Four ranges are in one node.
     assert_same(rt, map.store().len(), 1);
 }
@@ -75,8 +79,12 @@ fn overlap_four<C: ClearNodes<u64, Span<u64>> + Drop>(rt: &impl Abort, origin: C
 
 // Checks that a map has no range.
 fn check_none<C: NodesMut<u64, Span<u64>>>(rt: &impl Abort, map: &RangeMap<u64, C>) {
-    assert_same(rt, (map.get(0), map.get_range(10)), (None, None));
-    assert_same(rt, (map.first(), map.last()), (None, None));
+    assert_same(
+        rt,
+        (map.get(0).copied(), copied(map.get_range(10))),
+        (None, None),
+    );
+    assert_same(rt, (copied(map.first()), copied(map.last())), (None, None));
     assert_same(rt, map.overlaps(0, u64::MAX), false);
     assert_same(rt, map.store().len(), 0);
 }

@@ -1,9 +1,8 @@
 //! Calls that are refused, and calls that are not, on maps that have as many ranges as they may have.
 use crate::asserts::assert_same;
 use crate::checks::{Call, Heap, OneNode, Outcome, Ranges, call, check_ranges, fill};
-use btree_item::Cause;
 use btree_node::ClearNodes;
-use btree_range_map::{RangeMap, Span};
+use btree_range_map::{RangeCause, RangeMap, Span};
 use std::process::Abort;
 
 const SEVEN: Ranges = &[
@@ -55,7 +54,7 @@ const GRANTED: [(Call, Call); 6] = [
 fn refuse_a_ninth<C: ClearNodes<u64, Span<u64>> + Drop>(
     rt: &impl Abort,
     mut map: RangeMap<u64, C>,
-    cause: Cause,
+    cause: RangeCause,
 ) {
     for (ranges, wanted) in REFUSED {
         fill(rt, &mut map, ranges);
@@ -81,8 +80,8 @@ fn take_eight<C: ClearNodes<u64, Span<u64>> + Drop>(rt: &impl Abort, mut map: Ra
 
 #[test]
 fn refuses_a_ninth_range(rt: HostRuntime) {
-    refuse_a_ninth::<OneNode>(&rt, RangeMap::new(()), Cause::Store);
-    refuse_a_ninth::<Heap>(&rt, RangeMap::with_limit(rt.alloc(), 8), Cause::Count);
+    refuse_a_ninth::<OneNode>(&rt, RangeMap::new(()), RangeCause::Store);
+    refuse_a_ninth::<Heap>(&rt, RangeMap::with_limit(rt.alloc(), 8), RangeCause::Count);
 }
 
 #[test]
@@ -98,7 +97,7 @@ fn want_two_more<C: ClearNodes<u64, Span<u64>> + Drop>(rt: &impl Abort, mut map:
     assert_same(
         rt,
         call(&mut map, inside),
-        Outcome::Refused(Cause::Count, inside),
+        Outcome::Refused(RangeCause::Count, inside),
     );
     check_ranges(rt, &map, &[(3, 9, 1)]);
     assert_same(rt, call(&mut map, (3, 5, Some(2))), Outcome::Done);

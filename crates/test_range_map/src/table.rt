@@ -1,10 +1,9 @@
 //! Lists of two hundred calls, against a table of values.
 use crate::asserts::{assert_same, assert_true};
 use crate::checks::{Heap, Outcome, call};
-use btree_item::Cause;
 use btree_more_stores::{FixedSlab, Gate, OddSlab};
 use btree_node::{Node, NodesMut};
-use btree_range_map::{RangeMap, Span};
+use btree_range_map::{RangeCause, RangeMap, Span};
 use btree_store::SlabMut;
 use std::alloc::Global;
 use std::process::Abort;
@@ -48,7 +47,7 @@ fn check_table<C: NodesMut<u64, Span<u64>>>(
     }
     let mut number = 0u64;
     for (value, is_listed) in table.iter().zip(listed.iter()) {
-        assert_same(rt, (map.get(number), *is_listed), (*value, *value));
+        assert_same(rt, (map.get(number).copied(), *is_listed), (*value, *value));
         number = number.wrapping_add(1);
     }
     assert_same(
@@ -64,7 +63,7 @@ fn run<C: NodesMut<u64, Span<u64>> + Drop>(
     rt: &impl Abort,
     map: RangeMap<u64, C>,
     list: u64,
-    cause: Cause,
+    cause: RangeCause,
 ) -> usize {
     let mut map = map;
     let mut table: [Option<u64>; 64] = [None; 64];
@@ -99,7 +98,7 @@ fn run<C: NodesMut<u64, Span<u64>> + Drop>(
 fn agree<C: NodesMut<u64, Span<u64>> + Drop>(rt: &impl Abort, origin: C::Origin, list: u64) {
     assert_same(
         rt,
-        run::<C>(rt, RangeMap::new(origin), list, Cause::Store),
+        run::<C>(rt, RangeMap::new(origin), list, RangeCause::Store),
         0,
     );
 }
@@ -108,7 +107,7 @@ fn agree<C: NodesMut<u64, Span<u64>> + Drop>(rt: &impl Abort, origin: C::Origin,
 fn agree_within<C: NodesMut<u64, Span<u64>> + Drop>(rt: &impl Abort, origin: C::Origin, list: u64) {
     assert_true(
         rt,
-        run::<C>(rt, RangeMap::with_limit(origin, 5), list, Cause::Count) > 0,
+        run::<C>(rt, RangeMap::with_limit(origin, 5), list, RangeCause::Count) > 0,
     );
 }
 
@@ -131,7 +130,7 @@ fn gated_map(alloc: Global, refuses_at: usize) -> RangeMap<u64, Gate<Heap>> {
 // Runs a list with each allocation refused in turn, the first one at least, until a run needs fewer.
 fn agree_behind_gates(rt: &impl Abort, alloc: Global, list: u64) -> Result<(), Fail> {
     for refuses_at in 1..200 {
-        let refusals = run(rt, gated_map(alloc, refuses_at), list, Cause::Store);
+        let refusals = run(rt, gated_map(alloc, refuses_at), list, RangeCause::Store);
         if refusals == 0 {
             assert_true(rt, refuses_at > 1);
             return Ok(());

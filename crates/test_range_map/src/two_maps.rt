@@ -1,9 +1,8 @@
 //! Maps that are compared, and clones.
 use crate::asserts::assert_true;
 use crate::checks::{Call, Heap, OneNode, Outcome, Ranges, call, check_ranges};
-use btree_item::Cause;
 use btree_node::{CloneNodes, NodesMut};
-use btree_range_map::{RangeMap, Span};
+use btree_range_map::{RangeCause, RangeMap, Span};
 use std::process::Abort;
 
 // Does calls, of which none is refused.
@@ -53,7 +52,7 @@ fn clone_one<C: CloneNodes<u64, Span<u64>> + Drop>(rt: &impl Abort, mut map: Ran
     let more = (20, 30, Some(1));
     assert_true(
         rt,
-        call(&mut copy, more) == Outcome::Refused(Cause::Count, more),
+        call(&mut copy, more) == Outcome::Refused(RangeCause::Count, more),
     );
     do_all(rt, &mut copy, &[(0, 2, None)]);
     assert_true(rt, copy != map);

@@ -1,9 +1,8 @@
 //! Values that are updated by an action.
 use crate::asserts::{assert_same, assert_true};
 use crate::checks::{Heap, Ranges, check_ranges, fill};
-use btree_item::Cause;
 use btree_node::ClearNodes;
-use btree_range_map::{RangeMap, Span};
+use btree_range_map::{RangeCause, RangeMap, Span};
 use std::process::Abort;
 
 const ONE: Ranges = &[(3, 9, 4)];
@@ -35,7 +34,7 @@ fn halve<C: ClearNodes<u64, Span<u64>> + Drop>(rt: &impl Abort, origin: C::Origi
     let mut map: RangeMap<u64, C> = RangeMap::new(origin);
     for (before, start, end, after) in ROWS {
         fill(rt, &mut map, before);
-        assert_true(rt, map.update(start, end, |value| value / 2).is_ok());
+        assert_true(rt, map.update(start, end, |value| *value / 2).is_ok());
         check_ranges(rt, &map, after);
     }
 }
@@ -63,12 +62,12 @@ fn refuse_the_second<C: ClearNodes<u64, Span<u64>> + Drop>(
     mut map: RangeMap<u64, C>,
 ) {
     fill(rt, &mut map, &[(0, 5, 8), (10, 15, 6)]);
-    match map.update(3, 12, |value| value / 2) {
+    match map.update(3, 12, |value| *value / 2) {
         Ok(()) => panic!(rt; "not refused"),
         Err(refused) => {
             let span = Span { end: 12, value: 3 };
             assert_same(rt, (refused.key, refused.value), (10, span));
-            assert_same(rt, refused.cause, Cause::Count);
+            assert_same(rt, refused.cause, RangeCause::Count);
         }
     }
     check_ranges(rt, &map, &[(0, 3, 8), (3, 5, 4), (10, 15, 6)]);

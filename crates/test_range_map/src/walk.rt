@@ -1,6 +1,6 @@
 //! Walks over the ranges of a map, from both ends.
 use crate::asserts::{assert_same, assert_true};
-use crate::checks::{Heap, range};
+use crate::checks::{Heap, copied, range};
 use btree_node::NodesMut;
 use btree_range_map::{RangeMap, Span};
 use std::process::Abort;
@@ -23,12 +23,20 @@ fn pass_from_both_ends<C: NodesMut<u64, Span<u64>> + Drop>(rt: &impl Abort, orig
     let mut ranges = map.iter();
     for i in 0..22 {
         let back = 132 - 3 * i;
-        assert_same(rt, ranges.next(), Some(range(3 * i, 3 * i + 2, i)));
-        assert_same(rt, ranges.next_back(), Some(range(back, back + 2, 44 - i)));
+        assert_same(rt, copied(ranges.next()), Some(range(3 * i, 3 * i + 2, i)));
+        assert_same(
+            rt,
+            copied(ranges.next_back()),
+            Some(range(back, back + 2, 44 - i)),
+        );
     }
     assert_same(rt, (ranges.len(), ranges.size_hint()), (1, (1, Some(1))));
-    assert_same(rt, ranges.next_back(), Some(range(66, 68, 22)));
-    assert_same(rt, (ranges.next(), ranges.next_back()), (None, None));
+    assert_same(rt, copied(ranges.next_back()), Some(range(66, 68, 22)));
+    assert_same(
+        rt,
+        (copied(ranges.next()), copied(ranges.next_back())),
+        (None, None),
+    );
     assert_same(rt, (ranges.len(), ranges.size_hint()), (0, (0, Some(0))));
 }
 
@@ -50,7 +58,11 @@ fn take_from_both_ends<C: NodesMut<u64, Span<u64>> + Drop>(rt: &impl Abort, orig
         let back = 132 - 3 * i;
         assert_same(rt, map.pop_first(), Some(range(3 * i, 3 * i + 2, i)));
         assert_same(rt, map.pop_last(), Some(range(back, back + 2, 44 - i)));
-        assert_same(rt, (map.get(3 * i), map.get(back)), (None, None));
+        assert_same(
+            rt,
+            (map.get(3 * i).copied(), map.get(back).copied()),
+            (None, None),
+        );
     }
     assert_same(rt, map.pop_last(), Some(range(66, 68, 22)));
     assert_same(rt, (map.pop_first(), map.pop_last()), (None, None));

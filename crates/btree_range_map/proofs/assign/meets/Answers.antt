@@ -2,10 +2,10 @@ use Rattle.btree_range_map.proofs.Common.{◌∙◌, Option, subst, sym, arith, 
 use Rattle.btree_range_map.proofs.PlaceLemmas.{past-apart, told-apart, told-same}
 use Rattle.btree_range_map.proofs.assign.meets.Goals as goal
 
-pub returns-then-first-span : goal.returns-then-first-span
-returns-then-first-span g c place is =
+pub returns-then-first-end : goal.returns-then-first-end
+returns-then-first-end g c place is =
     let item = (subst (λ (o : Option Address). IsItemAt c.args.map.now place o) c.in-Some.is is).here in
-    let low = c.if-first-span.true in
+    let low = c.if-first-end.true in
     let end = c.max.ensures in
     let same = told-same _ c.requires.same _ _ _ c.eq.ensures c.if-eq.true in
     record {
@@ -17,10 +17,10 @@ returns-then-first-span g c place is =
       joins = λ lt. (same, omega (arith, low), omega (arith, end, lt));
     }
 
-pub returns-then-next-span : goal.returns-then-next-span
-returns-then-next-span g c place is =
+pub returns-then-next-end : goal.returns-then-next-end
+returns-then-next-end g c place is =
     let item = (subst (λ (o : Option Address). IsItemAt c.args.map.now place o) c.in-Some.is is).here in
-    let within = c.if-next-span.true in
+    let within = c.if-next-end.true in
     record {
       range = (c.pair_at.result.0.now, c.pair_at.result.1.now);
       item = item;
@@ -33,8 +33,8 @@ returns-then-next-span g c place is =
 pub returns : goal.returns
 returns g c place is =
     let item = (subst (λ (o : Option Address). IsItemAt c.args.map.now place o) c.in-Some.is is).here in
-    let starts = c.if-span-first.false in
-    let past = c.if-next-span.false in (
+    let starts = c.if-end-first.false in
+    let past = c.if-next-end.false in (
       c.pair_at.result.1.now,
       record {
         first = c.pair_at.result.0.now;
@@ -49,5 +49,5 @@ returns g c place is =
 pub returns-then-eq : goal.returns-then-eq
 returns-then-eq g c place is =
     let item = (subst (λ (o : Option Address). IsItemAt c.args.map.now place o) c.in-Some.is is).here in
-    let past = c.if-first-span.false in
-    past-apart _ place c.args.span.now (c.pair_at.result.0.now, c.pair_at.result.1.now) (sym item.item ∙ c.pair_at.ensures) (omega (arith, past))
+    let past = c.if-first-end.false in
+    past-apart _ place (record { end = c.args.end; value = c.args.value.now }) (c.pair_at.result.0.now, c.pair_at.result.1.now) (sym item.item ∙ c.pair_at.ensures) (omega (arith, past))

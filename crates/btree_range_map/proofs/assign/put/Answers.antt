@@ -1,4 +1,5 @@
 use Rattle.btree_range_map.proofs.Common.{pairs_of, JoinsNone}
+use Rattle.btree_range_map.proofs.KeptLemmas.{refused-one}
 use Rattle.btree_range_map.proofs.PlaceLemmas.{normal-place, on-error}
 use Rattle.btree_range_map.proofs.PutLemmas.{put-absorbed, put-absorbs, put-done, put-none, put-none-over}
 use Rattle.btree_range_map.proofs.assign.put.Goals as goal
@@ -39,3 +40,10 @@ returns-in-Err-clause-joins_none g c =
     let here = c.requires.can.here in
     let next = normal-place s c.args.at here.place here.has c.normalize-next.result c.normalize-next.ensures in
     put-none s c.args.at c.args.start c.args.span c.requires.can (c.in-Apart.ensures here.place next)
+
+pub returns-in-Err-clause-cause : goal.returns-in-Err-clause-cause
+returns-in-Err-clause-cause g c = rw c.refused_by_node.ensures.cause (refused-one c.args.map.now c.insert_at.new.self c.args.at _ _ c.in-Err.ensures.refused)
+
+pub put_before-requires-clause-next : goal.put_before-requires-clause-next
+put_before-requires-clause-next g c = λ place has.
+    c.in-Overlapped.ensures place (normal-place c.args.map.now c.args.at place has c.normalize-next.result c.normalize-next.ensures)

@@ -72,9 +72,10 @@ returns-in-Err-clause-cause g c =
     let is = key-exchanged c.args.map.now c.replace_key_at-first.new.self c.args.next _ _ _ rest (o.item.item ∙ o.listed) c.replace_key_at-first.ensures in
     let had = c.replace_key_at-first.ensures.had in
     let first : c.replace_key_at-first.result ≡ o.first = ap (λ (z : ℕ × Span _). z.0) (same_Some _ _ (sym had ∙ o.item.item ∙ o.listed)) in
-    trimmed-refused c.args.map.now c.args.at c.args.start c.args.span can c.args.next rest o c.replace_key_at-first.new.self is c.insert_at.new.self _ _ c.in-Err.ensures.refused
+    rw c.refused_by_node.ensures.cause
+    (trimmed-refused c.args.map.now c.args.at c.args.start c.args.span can c.args.next rest o c.replace_key_at-first.new.self is c.insert_at.new.self _ _ c.in-Err.ensures.refused
     c.replace_key_at.new.self
     (rw first at
     (key-exchanged c.insert_at.new.self c.replace_key_at.new.self c.args.next _ _ _ rest
     (trimmed-item c.args.map.now c.args.at c.args.start c.args.span can c.args.next rest o c.replace_key_at-first.new.self is c.insert_at.new.self _ _ c.in-Err.ensures.refused)
-    c.replace_key_at.ensures))
+    c.replace_key_at.ensures)))

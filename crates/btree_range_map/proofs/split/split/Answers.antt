@@ -20,5 +20,5 @@ unreachable-requires g c =
 pub returns-in-Some-clause-assigned : goal.returns-in-Some-clause-assigned
 returns-in-Some-clause-assigned g c =
     split-done c.args.map.now c.args.at c.args.start c.args.span c.args.last c.requires c.insert_at.new.self c.in-Ok.right _ refl (rw c.new.ensures at c.in-Ok.ensures.inserted)
-    c.insert_at-in-Ok.new.self c.replace_value_at.new.self c.in-Ok-insert_at.middle c.in-Some.left c.replace_value_at.result _ _ refl refl
-    (rw c.new-in-Ok.ensures at c.in-Ok-insert_at.ensures.inserted) c.in-Some.ensures c.replace_value_at.ensures
+    c.insert_at-in-Ok.new.self c.set_end.new.map c.in-Ok-insert_at.middle c.in-Some.left _ refl
+    (rw c.new-in-Ok.ensures at c.in-Ok-insert_at.ensures.inserted) c.in-Some.ensures c.set_end.ensures

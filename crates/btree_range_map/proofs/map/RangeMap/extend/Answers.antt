@@ -16,17 +16,17 @@ loop-start-preserved g c =
 
 pub returns-in-Err-clause-bounded : goal.returns-in-Err-clause-bounded
 returns-in-Err-clause-bounded g c =
-    grows-same c.args.self.now c.loop-start.self c.insert.new.self c.loop-start.invariant.2 (refused-ranges c.loop-start.self c.insert.new.self _ _ _ c.in-Err.ensures.cause)
+    grows-same c.args.self.now c.loop-start.self c.insert.new.self c.loop-start.invariant.2 (refused-ranges _ c.loop-start.self c.insert.new.self _ _ _ c.in-Err.ensures.cause)
 
 pub returns-in-Err-clause-joins_none : goal.returns-in-Err-clause-joins_none
 returns-in-Err-clause-joins_none g c =
     let given = c.in-Err.ensures.returned in
-    rw (refused-ranges c.loop-start.self c.insert.new.self _ _ _ c.in-Err.ensures.cause, given.0, given.1, given.2) c.in-Err.ensures.joins_none
+    rw (refused-ranges _ c.loop-start.self c.insert.new.self _ _ _ c.in-Err.ensures.cause, given.0, given.1, given.2) c.in-Err.ensures.joins_none
 
 pub returns-in-Err-clause-cause : goal.returns-in-Err-clause-cause
 returns-in-Err-clause-cause g c =
     let given = c.in-Err.ensures.returned in
-    rw (given.0, given.1) (counts-last c.args.self.now c.loop-start.self c.insert.new.self _ _ _ c.loop-start.invariant.1 c.in-Err.ensures.cause)
+    rw (given.0, given.1) (counts-last _ c.args.self.now c.loop-start.self c.insert.new.self _ _ _ c.loop-start.invariant.1 c.in-Err.ensures.cause)
 
 pub returns-in-Err-clause-stopped : goal.returns-in-Err-clause-stopped
 returns-in-Err-clause-stopped g c =
@@ -37,4 +37,4 @@ returns-in-Err-clause-stopped g c =
     subst (λ o. GoesThrough g.I.Iterator.next_gives c.args.self.now c.args.source.now o c.insert.new.self c.next.new.self) (sym same)
     (l.invariant.3 (Some (c.in-Some.start, c.in-Some.span)) c.insert.new.self c.next.new.self
     (assigns-none g.I.Iterator.next_gives l.self c.insert.new.self l.source c.next.new.self (Some (c.in-Some.start, c.in-Some.span)) c.in-Some.ensures.steps
-    (refused-ranges l.self c.insert.new.self _ _ _ c.in-Err.ensures.cause)))
+    (refused-ranges _ l.self c.insert.new.self _ _ _ c.in-Err.ensures.cause)))

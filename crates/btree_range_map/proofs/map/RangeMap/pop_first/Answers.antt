@@ -5,7 +5,7 @@ use Rattle.btree_range_map.proofs.map.RangeMap.pop_first.Goals as goal
 pub invariant_of-self : goal.invariant_of-self
 invariant_of-self g c =
     let pop = c.pop_first.ensures in
-    (popped-runs c.self.inside.map c.pop_first.new.self nat_cmp 0 _ pop.pair pop.removed pop.unchanged c.self.invariant.0, c.self.invariant.1)
+    (popped-runs c.self.inside.map c.pop_first.new.self nat_cmp 0 _ pop.pair pop.removed pop.unchanged c.self.invariant.0, c.self.invariant.1, c.self.invariant.2)
 
 pub returns-clause-cleared : goal.returns-clause-cleared
 returns-clause-cleared g c =
