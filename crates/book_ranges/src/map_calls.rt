@@ -1,22 +1,44 @@
 //! Calls of a map of ranges.
-use crate::ranges::{Range, put_outcome, put_range, put_ranges, walk_ranges};
+use crate::ranges::{Range, put_range, put_ranges, walk_ranges};
 use book_text::{Reply, number, word};
-use btree_slab::generic::map::Refused;
-use btree_slab::range_map::{RangeMap, Span};
+use btree_slab::generic::map::Cause;
+use btree_slab::range_map::{RangeCause, RangeMap, RangeRefused, Span};
 use btree_slab::store::{ClearNodes, NodesMut};
 use std::alloc::AllocError;
 
 type Map<C> = RangeMap<u64, C>;
 
+fn put_cause(cause: RangeCause, reply: &mut Reply) -> Result<(), AllocError> {
+    match cause {
+        RangeCause::Store => reply.refused(Cause::Store),
+        RangeCause::Count => reply.refused(Cause::Count),
+        RangeCause::Clone => reply.word("clone"),
+    }
+}
+
 // Adds `ok`, or the numbers and the value that were refused, and the cause.
 fn put_insertion(
-    outcome: Result<(), Refused<u64, Span<u64>>>,
+    outcome: Result<(), RangeRefused<Span<u64>>>,
     reply: &mut Reply,
 ) -> Result<(), AllocError> {
     match outcome {
         Ok(()) => reply.word("ok"),
         Err(refused) => {
-            reply.refused(refused.cause)?;
+            put_cause(refused.cause, reply)?;
+            (refused.key, refused.value).put(reply)
+        }
+    }
+}
+
+// Adds `ok`, or the numbers that were refused, and the cause.
+fn put_removal(
+    outcome: Result<(), RangeRefused<u64>>,
+    reply: &mut Reply,
+) -> Result<(), AllocError> {
+    match outcome {
+        Ok(()) => reply.word("ok"),
+        Err(refused) => {
+            put_cause(refused.cause, reply)?;
             (refused.key, refused.value).put(reply)
         }
     }
@@ -54,7 +76,7 @@ fn by_number<C: NodesMut<u64, Span<u64>>>(
 ) -> Result<bool, AllocError> {
     match verb {
         "contains" => reply.truth(map.contains(number))?,
-        "get" => reply.value(map.get(number))?,
+        "get" => reply.value(map.get(number).copied())?,
         "get_range" => put_range(map.get_range(number), reply)?,
         _ => return Ok(false),
     }
@@ -69,7 +91,7 @@ fn by_numbers<C: NodesMut<u64, Span<u64>>>(
     reply: &mut Reply,
 ) -> Result<bool, AllocError> {
     match verb {
-        "remove" => put_outcome(map.remove(start, end), reply)?,
+        "remove" => put_removal(map.remove(start, end), reply)?,
         "overlaps" => reply.truth(map.overlaps(start, end))?,
         "gaps" => put_ranges(map.gaps(start, end), reply)?,
         _ => return Ok(false),
@@ -86,7 +108,7 @@ fn update<C: NodesMut<u64, Span<u64>>>(
     reply: &mut Reply,
 ) -> Result<(), AllocError> {
     let mut calls = 0u64;
-    let outcome = map.update(start, end, |value: u64| {
+    let outcome = map.update(start, end, |value: &u64| {
         calls = calls.wrapping_add(1);
         value.wrapping_add(more)
     });

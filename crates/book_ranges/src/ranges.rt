@@ -23,6 +23,12 @@ impl Range for (u64, u64) {
 
 impl Range for (u64, Span<u64>) {
     fn put(self, reply: &mut Reply) -> Result<(), AllocError> {
+        (self.0, &self.1).put(reply)
+    }
+}
+
+impl<'a> Range for (u64, &'a Span<u64>) {
+    fn put(self, reply: &mut Reply) -> Result<(), AllocError> {
         (self.0, self.1.end).put(reply)?;
         reply.glue("=")?;
         reply.glue_number(self.1.value)
