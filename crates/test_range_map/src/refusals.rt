@@ -1,6 +1,6 @@
 //! Calls that are refused, and calls that are not, on maps that have as many ranges as they may have.
 use crate::asserts::assert_same;
-use crate::checks::{Call, Heap, OneNode, Outcome, Ranges, call, check_ranges, fill};
+use crate::checks::{Call, Heap, OneNode, Outcome, Ranges, call, check_ranges, copied, fill};
 use btree_node::ClearNodes;
 use btree_range_map::{RangeCause, RangeMap, Span};
 use std::process::Abort;
@@ -74,7 +74,7 @@ fn take_eight<C: ClearNodes<u64, Span<u64>> + Drop>(rt: &impl Abort, mut map: Ra
             end,
             value: value.unwrap_or(0),
         };
-        assert_same(rt, map.get_range(12), Some((start, span)));
+        assert_same(rt, copied(map.get_range(12)), Some((start, span)));
     }
 }
 

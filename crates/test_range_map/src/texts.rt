@@ -53,7 +53,7 @@ impl<A: Allocator> Eq for Text<A> {
 type Owned<'a> = Text<&'a Refusing<Global>>;
 
 // Returns a text.
-fn text<A: Allocator>(alloc: A, text: &str) -> Result<Text<A>, AllocError> {
+fn owned<A: Allocator>(alloc: A, text: &str) -> Result<Text<A>, AllocError> {
     let text = String::from_str(alloc, text)?;
     Ok(Text { text })
 }
@@ -73,8 +73,8 @@ fn refuse_one<'a, C: NodesMut<u64, Span<Owned<'a>>> + Drop>(
     origin: C::Origin,
 ) -> Result<(), Fail> {
     let mut map: RangeMap<Owned<'a>, C> = RangeMap::new(origin);
-    let old = text(alloc, "old")?;
-    let new = text(alloc, "new")?;
+    let old = owned(alloc, "old")?;
+    let new = owned(alloc, "new")?;
     assert_true(rt, map.insert(10, 20, old).is_ok());
     alloc.refuse(1);
     let refused = match map.insert(12, 15, new) {
