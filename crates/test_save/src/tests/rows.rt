@@ -82,7 +82,6 @@ fn files_are_as_drawn(rt: HostRuntime) -> Result<(), Fail> {
 #[test]
 fn images_have_their_faults(rt: HostRuntime) -> Result<(), Fail> {
     let alloc = rt.alloc();
-    let good = file(alloc, &ONE_PAIR)?;
     check_image(
         &rt,
         alloc,
@@ -111,6 +110,12 @@ fn images_have_their_faults(rt: HostRuntime) -> Result<(), Fail> {
         BadImage::Vacant,
         48,
     );
+    Ok(())
+}
+
+#[test]
+fn nodes_have_their_faults(rt: HostRuntime) -> Result<(), Fail> {
+    let alloc = rt.alloc();
     check_image(
         &rt,
         alloc,
@@ -132,6 +137,13 @@ fn images_have_their_faults(rt: HostRuntime) -> Result<(), Fail> {
         BadImage::Value,
         96,
     );
+    Ok(())
+}
+
+#[test]
+fn ends_have_their_faults(rt: HostRuntime) -> Result<(), Fail> {
+    let alloc = rt.alloc();
+    let good = file(alloc, &ONE_PAIR)?;
     check_image(&rt, alloc, &good[..95], BadImage::Short, 88);
     check_image(&rt, alloc, &good[..87], BadImage::Value, 80);
     check_image(&rt, alloc, &[], BadImage::Short, 0);
