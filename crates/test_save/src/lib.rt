@@ -1,5 +1,0 @@
-//! Tests of saved maps.
-#![tactic(auto)]
-
-#[cfg(test)]
-mod tests;
