@@ -1,7 +1,9 @@
 //! A session: a map, and commands that are run on it.
 ghost use Rattle.std.specs.Prelude.{◌≡◌, [], Some, None, length, IsOk, OnOk, OnErr};
 ghost use Rattle.std.specs.FinMap as map;
-ghost use Rattle.btree_laws.specs.TreeState.{IsOccupiedIn, item_of, limited_to, pairs_of, rootless, unlimited};
+ghost use Rattle.std.specs.Ordering.{nat_cmp};
+ghost use Rattle.btree_laws.specs.TreeState.{IsBTree, IsOccupiedIn, item_of, limited_to, pairs_of, rootless, unlimited};
+ghost use Rattle.btree_raw.specs.Limit.{IsBTreeWithinLimit};
 ghost use Rattle.btree_session.specs.Machine.{IsStep, Runs, value_reply};
 ghost use Rattle.btree_session.specs.Text.{HasCapacityFor};
 
@@ -84,12 +86,11 @@ impl<C: NodesMut<u64, u64>> Session<C> {
     }
 
     fn insert(&mut self, key: u64, value: u64) -> Reply
-        ensures { IsStep C.MayRefuse self.old (Command.Insert key value) result self.new }
+        requires tree { IsBTreeWithinLimit self.old.map nat_cmp }
+        ensures { IsBTree nat_cmp self.new.map →
+            IsStep C.MayRefuse self.old (Command.Insert key value) result self.new }
     {
-        self.map.tell_well_formed();
-        let outcome = self.map.insert(key, value);
-        self.map.tell_well_formed();
-        match outcome {
+        match self.map.insert(key, value) {
             Ok(was) => {
                 self.held = None;
                 reply_of(was)
@@ -102,16 +103,16 @@ impl<C: NodesMut<u64, u64>> Session<C> {
     }
 
     fn get(&self, key: u64) -> Reply
+        requires tree { IsBTreeWithinLimit self.now.map nat_cmp }
         ensures { IsStep C.MayRefuse self.now (Command.Get key) result self.now }
     {
-        self.map.tell_well_formed();
         reply_of(self.map.get(&key).copied())
     }
 
     fn seek(&mut self, key: u64) -> Reply
+        requires tree { IsBTreeWithinLimit self.old.map nat_cmp }
         ensures { IsStep C.MayRefuse self.old (Command.Seek key) result self.new }
     {
-        self.map.tell_well_formed();
         match self.map.address_of(&key) {
             Ok(addr) => {
                 let (_, value) = pair_at(&self.map, &addr);
@@ -126,9 +127,9 @@ impl<C: NodesMut<u64, u64>> Session<C> {
     }
 
     fn next(&mut self) -> Reply
+        requires tree { IsBTreeWithinLimit self.old.map nat_cmp }
         ensures { IsStep C.MayRefuse self.old Command.Next result self.new }
     {
-        self.map.tell_well_formed();
         let Some(held) = self.held else {
             return Reply::NoPlace;
         };
@@ -144,9 +145,9 @@ impl<C: NodesMut<u64, u64>> Session<C> {
     }
 
     fn prev(&mut self) -> Reply
+        requires tree { IsBTreeWithinLimit self.old.map nat_cmp }
         ensures { IsStep C.MayRefuse self.old Command.Prev result self.new }
     {
-        self.map.tell_well_formed();
         let Some(held) = self.held else {
             return Reply::NoPlace;
         };
@@ -159,28 +160,27 @@ impl<C: NodesMut<u64, u64>> Session<C> {
     }
 
     fn remove(&mut self, key: u64) -> Reply
-        ensures { IsStep C.MayRefuse self.old (Command.Remove key) result self.new }
+        requires tree { IsBTreeWithinLimit self.old.map nat_cmp }
+        ensures { IsBTree nat_cmp self.new.map →
+            IsStep C.MayRefuse self.old (Command.Remove key) result self.new }
     {
-        self.map.tell_well_formed();
         let value = self.map.remove(&key);
-        self.map.tell_well_formed();
         self.held = None;
         reply_of(value)
     }
 
     fn put(&mut self, key: u64, value: u64) -> Reply
-        ensures { IsStep C.MayRefuse self.old (Command.Put key value) result self.new }
+        requires tree { IsBTreeWithinLimit self.old.map nat_cmp }
+        ensures { IsBTree nat_cmp self.new.map →
+            IsStep C.MayRefuse self.old (Command.Put key value) result self.new }
     {
-        self.map.tell_well_formed();
         let Some(held) = self.held else {
             return Reply::NoPlace;
         };
         if !self.map.fits_at(held, &key) {
             return Reply::Unfit;
         }
-        let outcome = self.map.insert_at(held, Item::new(key, value));
-        self.map.tell_well_formed();
-        match outcome {
+        match self.map.insert_at(held, Item::new(key, value)) {
             Ok(addr) => {
                 self.held = Some(addr);
                 Reply::Done
@@ -193,9 +193,9 @@ impl<C: NodesMut<u64, u64>> Session<C> {
     }
 
     fn take(&mut self) -> Reply
+        requires tree { IsBTreeWithinLimit self.old.map nat_cmp }
         ensures { IsStep C.MayRefuse self.old Command.Take result self.new }
     {
-        self.map.tell_well_formed();
         let Some(held) = self.held else {
             return Reply::NoPlace;
         };
@@ -215,7 +215,8 @@ impl<C: ClearNodes<u64, u64>> Session<C> {
     pub(crate) fn execute(&mut self, command: Command) -> Reply
         ensures { IsStep C.MayRefuse self.old command result self.new }
     {
-        match command {
+        self.map.tell_well_formed();
+        let reply = match command {
             Command::Insert(key, value) => self.insert(key, value),
             Command::Get(key) => self.get(key),
             Command::Remove(key) => self.remove(key),
@@ -225,15 +226,17 @@ impl<C: ClearNodes<u64, u64>> Session<C> {
             Command::Prev => self.prev(),
             Command::Put(key, value) => self.put(key, value),
             Command::Take => self.take(),
-        }
+        };
+        self.map.tell_well_formed();
+        reply
     }
 
     fn clear(&mut self) -> Reply
-        ensures { IsStep C.MayRefuse self.old Command.Clear result self.new }
+        requires tree { IsBTreeWithinLimit self.old.map nat_cmp }
+        ensures { IsBTree nat_cmp self.new.map →
+            IsStep C.MayRefuse self.old Command.Clear result self.new }
     {
-        self.map.tell_well_formed();
         self.map.clear();
-        self.map.tell_well_formed();
         self.held = None;
         Reply::Done
     }

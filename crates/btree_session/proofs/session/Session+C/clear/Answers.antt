@@ -3,6 +3,8 @@ use Rattle.btree_session.proofs.session.Session+C.clear.Goals as goal
 
 pub returns : goal.returns
 returns g c =
+    let was = rw c.self.view_is at c.requires in
+    λ tree.
     rw (← c.self.view_is)
-    (clear-done g.C.NodesMut.MayRefuse c.self.inside.map c.clear.new.self c.tell_well_formed.ensures.well_formed c.self.inside.held c.self.invariant c.tell_well_formed-2.ensures.well_formed
+    (clear-done g.C.NodesMut.MayRefuse c.self.inside.map c.clear.new.self was.0 c.self.inside.held c.self.invariant tree
     c.clear.ensures.empty c.clear.ensures.state)

@@ -3,4 +3,6 @@ use Rattle.btree_session.proofs.Steps.{get-done}
 use Rattle.btree_session.proofs.session.Session+C.get.Goals as goal
 
 pub returns : goal.returns
-returns g c = rw (c.reply_of.ensures, ← c.self.view_is) (get-done g.C.NodesMut.MayRefuse _ c.tell_well_formed.ensures.well_formed c.self.invariant c.args.key _ (c.copied.ensures ∙ c.get.ensures))
+returns g c =
+    let was = rw c.self.view_is at c.requires in
+    rw (c.reply_of.ensures, ← c.self.view_is) (get-done g.C.NodesMut.MayRefuse _ was.0 c.self.invariant c.args.key _ (c.copied.ensures ∙ c.get.ensures))
