@@ -22,6 +22,25 @@ table_code {T} code =
 abbrev pub with_value : {T : Type 0} → Table T → ℕ → T → Table T
 with_value table slot value = record table { slots = slice_set table.slots slot (Some value) }
 
+-- the same of a store of a fixed number of places, which never used those from `fresh` on
+pub record Places (T : Type 0) : Type 0 where
+  pub slots : List (Option T)
+  pub fresh : ℕ
+  pub refused : ℕ
+
+abbrev pub places_code : {T : Type 0} → Coded T → Coded (Places T)
+places_code {T} code =
+    code_by
+    (List (Option T) × (ℕ × ℕ))
+    (coded× (coded_list (coded_option code)) (coded× coded_ℕ coded_ℕ))
+    (λ store. (store.slots, (store.fresh, store.refused)))
+    (λ parts. record { slots = parts.0; fresh = parts.1.0; refused = parts.1.1 })
+    (λ _. refl)
+
+-- the store with a value in a slot
+abbrev pub with_value_at : {T : Type 0} → Places T → ℕ → T → Places T
+with_value_at store slot value = record store { slots = slice_set store.slots slot (Some value) }
+
 -- the places from `fresh` on were never used, and of the others each that has no value is listed once as free
 pub record IsTable {T : Type 0} (places : ℕ) (slots : List (Option T)) (free : List ℕ) (fresh held : ℕ) : Type 0 where
   pub long : length slots ≡ places

@@ -8,6 +8,7 @@ ghost use Rattle.std.specs.FinMap as map;
 
 mod filling;
 
+use crate::fill::Fill;
 use arrayvec::ArrayVec;
 use btree_steps::Steps;
 use btree_store::{Clear, Slab, SlabClone, SlabMut};
@@ -32,13 +33,13 @@ pub struct FixedSlab<T, const N: usize> {
 }
 
 impl<T, const N: usize> Model for FixedSlab<T, N> {
-    ghost use Rattle.btree_more_stores.specs.Table.{Table, table_code, IsTable};
+    ghost use Rattle.btree_more_stores.specs.Table.{Places, places_code, IsTable};
 
-    ghost Value = { Table T };
+    ghost Value = { Places T };
 
-    ghost coded = { table_code T.code };
+    ghost coded = { places_code T.code };
 
-    ghost view = { λ store. record { slots = store.slots.items; refused = store.refused.count } };
+    ghost view = { λ store. record { slots = store.slots.items; fresh = store.fresh; refused = store.refused.count } };
 
     ghost invariant = { λ store. IsTable N store.slots.items store.free.items store.fresh store.held };
 }
@@ -106,7 +107,7 @@ impl<T, const N: usize> SlabMut<T> for FixedSlab<T, N> {
     ghost use Rattle.std.proofs.Common.{refl};
     ghost use Rattle.std.specs.Mem.{FitsInMemory};
     ghost use Rattle.btree_store.specs.SlotLaws.{content-written};
-    ghost use Rattle.btree_more_stores.specs.Table.{with_value};
+    ghost use Rattle.btree_more_stores.specs.Table.{with_value_at};
 
     type Origin = ();
 
@@ -114,7 +115,7 @@ impl<T, const N: usize> SlabMut<T> for FixedSlab<T, N> {
 
     ghost Fits = { FitsInMemory T.row };
 
-    ghost written = { with_value };
+    ghost written = { with_value_at };
 
     ghost content_written = { λ store id value used. content-written store.slots id value used };
 
@@ -124,14 +125,8 @@ impl<T, const N: usize> SlabMut<T> for FixedSlab<T, N> {
 
     fn tell_fits() {}
 
-    fn empty(_origin: ()) -> Self {
-        FixedSlab {
-            slots: ArrayVec::from_array_in((), Default::default()),
-            free: ArrayVec::new(),
-            fresh: 0,
-            held: 0,
-            refused: Steps::new(),
-        }
+    fn empty(origin: ()) -> Self {
+        FixedSlab::unused(origin)
     }
 
     fn get_mut(&mut self, id: usize) -> Option<&mut T> {

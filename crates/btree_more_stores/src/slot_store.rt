@@ -159,12 +159,7 @@ impl<T, A: Allocator + Copy> SlabMut<T> for SlotStore<T, A> {
     fn tell_fits() {}
 
     fn empty(origin: A) -> Self {
-        SlotStore {
-            slots: Vec::new(origin),
-            free: Vec::new(origin),
-            held: 0,
-            refused: Steps::new(),
-        }
+        SlotStore::unused(origin)
     }
 
     fn get_mut(&mut self, id: usize) -> Option<&mut T> {
@@ -201,6 +196,19 @@ impl<T, A: Allocator + Copy> SlabMut<T> for SlotStore<T, A> {
 }
 
 impl<T, A: Allocator + Copy> Fill<T> for SlotStore<T, A> {
+    ghost MayLack = { λ _. Unit {0} };
+
+    ghost reached = { λ store. length store.slots };
+
+    fn unused(origin: A) -> Self {
+        SlotStore {
+            slots: Vec::new(origin),
+            free: Vec::new(origin),
+            held: 0,
+            refused: Steps::new(),
+        }
+    }
+
     fn insert_under(&mut self, id: usize, value: T) -> Result<(), T> {
         if id < self.slots.len() || id == usize::MAX {
             return Err(value);

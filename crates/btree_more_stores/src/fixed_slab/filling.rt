@@ -7,6 +7,7 @@ ghost use Rattle.btree_more_stores.specs.Table.{IsTable};
 use super::{FixedSlab, fill};
 use crate::fill::Fill;
 use arrayvec::ArrayVec;
+use btree_steps::Steps;
 
 // Lists the places from `fresh` to `id` as free. The slots are there for the contract alone.
 fn add_free<T, const N: usize>(
@@ -27,6 +28,20 @@ fn add_free<T, const N: usize>(
 }
 
 impl<T, const N: usize> Fill<T> for FixedSlab<T, N> {
+    ghost MayLack = { λ id. N ≤ id };
+
+    ghost reached = { λ store. store.fresh };
+
+    fn unused(_origin: ()) -> Self {
+        FixedSlab {
+            slots: ArrayVec::from_array_in((), Default::default()),
+            free: ArrayVec::new(),
+            fresh: 0,
+            held: 0,
+            refused: Steps::new(),
+        }
+    }
+
     fn insert_under(&mut self, id: usize, value: T) -> Result<(), T> {
         if id < self.fresh || id >= N {
             return Err(value);

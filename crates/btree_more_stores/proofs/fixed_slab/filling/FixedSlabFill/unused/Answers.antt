@@ -1,6 +1,6 @@
 use Rattle.btree_more_stores.proofs.SlotLemmas.{content-none}
 use Rattle.btree_more_stores.proofs.TableLemmas.{table-new, all-none}
-use Rattle.btree_more_stores.proofs.fixed_slab.FixedSlabSlabMut.empty.Goals as goal
+use Rattle.btree_more_stores.proofs.fixed_slab.filling.FixedSlabFill.unused.Goals as goal
 
 pub invariant_of-result : goal.invariant_of-result
 invariant_of-result g c = rw (c.from_array_in.ensures.items, c.new.ensures) (table-new _ _ c.default.ensures.long (all-none 0 _ _ c.default.ensures))
