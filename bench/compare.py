@@ -5,8 +5,7 @@ usage: bench/compare.py COUNT.. [--rounds N]
 
 Run it at the top of the repository, with `rt`, `rustc` and Python 3. A time is in nanoseconds for each key, the least of the
 rounds; behind it stands its ratio to the kit's std map in the same rounds: those of `descend_at`, `ascend` and `collect`, which are phases of
-one map alone, are to `descend`, those of `range_ten` and `range_map_get` to a look-up, that of `range_map` to `range_set`, and those of `save` and `open` to `insert`. It
-fails where two maps give different sums.
+one map alone, are to `descend`, those of `range_ten` and `range_map_get` to a look-up, and that of `range_map` to `range_set`. It fails where two maps give different sums.
 """
 import argparse
 import os
@@ -14,10 +13,10 @@ import subprocess
 import sys
 import tempfile
 
-PHASES = ["insert", "get_present", "get_absent", "iterate", "iterate_back", "range_ten", "remove", "descend", "descend_at", "ascend", "collect", "consume", "consume_back", "range_set", "range_map", "range_map_get", "save", "open"]
+PHASES = ["insert", "get_present", "get_absent", "iterate", "iterate_back", "range_ten", "remove", "descend", "descend_at", "ascend", "collect", "consume", "consume_back", "range_set", "range_map", "range_map_get"]
 
 # The phase of the kit's std map to which a phase is compared that is not measured there.
-COMPARED = {"range_ten": "get_present", "descend_at": "descend", "ascend": "descend", "collect": "descend", "range_map": "range_set", "range_map_get": "get_present", "save": "insert", "open": "insert"}
+COMPARED = {"range_ten": "get_present", "descend_at": "descend", "ascend": "descend", "collect": "descend", "range_map": "range_set", "range_map_get": "get_present"}
 
 
 def lines_of(command):

@@ -1,7 +1,6 @@
 //! Times the kit's map and this repository's map: insertion, look-up, walks from both ends, removal, insertion in descending order, owning
 //! walks from both ends, and sets of ranges over both maps. Of this repository's map alone, it times short ranges, insertion at the address
-//! of the item before, insertion in ascending order, maps of ranges, and maps that are saved and opened, beside the kit's map as JSON.
-//! Insertion and look-up are timed over a fixed table of nodes too, for up to 1,536 keys.
+//! of the item before, insertion in ascending order, and maps of ranges. Insertion and look-up are timed over a fixed table of nodes too, for up to 1,536 keys.
 //!
 //! Without an argument it runs over 1000 keys and prints the sum of each phase. With a number of keys as its argument it prints, for each
 //! phase, its name, the nanoseconds that it took, and its sum.
@@ -12,7 +11,6 @@ mod descent;
 mod random;
 mod range_maps;
 mod ranges;
-mod saved;
 mod spans;
 mod tables;
 
@@ -21,11 +19,9 @@ use crate::descent::{descend, descend_at};
 use crate::random::{Numbers, drawn, shuffle};
 use crate::range_maps::{assign_and_remove, sum_values};
 use crate::ranges::sum_ranges;
-use crate::saved::{bytes_of, json_of, opened, parsed};
 use crate::spans::{KitSpans, Spans, add_and_subtract};
 use crate::tables::{FixedNodes, KitMap, SlabMap, SlabNodes, Table};
 use btree_map::BTreeMap;
-use btree_more_stores::{Fill, SlotStore};
 use btree_node::{Node, NodesMut};
 use btree_range_map::{RangeMap, Span};
 use btree_range_set::RangeSet;
@@ -298,45 +294,6 @@ fn measure_range_map<C: NodesMut<u64, Span<u64>> + Drop>(
     report(rt, is_timed, ("btree_slab", "range_map_get"), since, sum)
 }
 
-// A map in a store that is filled under chosen numbers: its pairs inserted, its bytes, and a map of these.
-fn measure_saved<C: Fill<Node<u64, u64>> + Drop>(
-    rt: &(impl Print + Clock),
-    (alloc, origin): (Global, C::Origin),
-    is_timed: bool,
-    keys: &Keys,
-) -> io::Result<()>
-where
-    C::Origin: Copy,
-{
-    let mut map: BTreeMap<u64, u64, C> = BTreeMap::new(origin);
-    let since = Instant::now(rt)?;
-    let present = put_all(&mut map, keys.put.as_slice())?;
-    report(rt, is_timed, ("saved", "insert"), since, present)?;
-    let since = Instant::now(rt)?;
-    let bytes = bytes_of(alloc, &map)?;
-    report(rt, is_timed, ("saved", "save"), since, map.len() as u64)?;
-    let since = Instant::now(rt)?;
-    let len = opened::<C>(origin, bytes.as_slice())? as u64;
-    report(rt, is_timed, ("saved", "open"), since, len)
-}
-
-// The kit's map as JSON, and a map of this.
-fn measure_json(
-    rt: &(impl Print + Clock),
-    alloc: Global,
-    is_timed: bool,
-    keys: &Keys,
-) -> io::Result<()> {
-    let mut map = KitMap::new(alloc);
-    let _present = put_all(&mut map, keys.put.as_slice())?;
-    let since = Instant::now(rt)?;
-    let text = json_of(alloc, &map)?;
-    report(rt, is_timed, ("json", "save"), since, map.len() as u64)?;
-    let since = Instant::now(rt)?;
-    let len = parsed(alloc, text.as_slice())? as u64;
-    report(rt, is_timed, ("json", "open"), since, len)
-}
-
 // The phases of a map that is filled once, each with a new map, so that all of them touch fresh memory.
 fn measure_maps(
     rt: &(impl Print + Clock),
@@ -388,10 +345,7 @@ fn measure_all(
 ) -> io::Result<()> {
     let keys = make_keys(count, rt.alloc())?;
     measure_maps(rt, rt.alloc(), is_timed, &keys)?;
-    measure_others(rt, rt.alloc(), is_timed, &keys)?;
-    let store = (rt.alloc(), rt.alloc());
-    measure_saved::<SlotStore<Node<u64, u64>>>(rt, store, is_timed, &keys)?;
-    measure_json(rt, rt.alloc(), is_timed, &keys)
+    measure_others(rt, rt.alloc(), is_timed, &keys)
 }
 
 // Returns the number of keys that the arguments give, and whether times are printed; `None` if they are something else.

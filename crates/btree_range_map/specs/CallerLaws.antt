@@ -88,8 +88,8 @@ none-below : (low n : ℕ) (gaps : List (ℕ × ℕ)) → AreApartFrom low gaps 
 none-below low n [] apart below = refl
 none-below low n (gap ∷ gaps) apart below =
     or_from (is_between gap.0 gap.1 n) (in_gaps gaps n)
-      (not-below gap.0 gap.1 n (omega (arith, below, apart.0)) (cases_Bool (is_between gap.0 gap.1 n)))
-      (none-below (suc gap.1) n gaps apart.2 (omega (arith, below, apart.0, apart.1)))
+    (not-below gap.0 gap.1 n (omega (arith, below, apart.0)) (cases_Bool (is_between gap.0 gap.1 n)))
+    (none-below (suc gap.1) n gaps apart.2 (omega (arith, below, apart.0, apart.1)))
 
 full : (gap inside has : Bool) → gap ≡ (inside && not has) → gap ≡ false → inside ≡ true → has ≡ true
 full false true true _ _ _ = refl
@@ -116,7 +116,7 @@ module _ {V : Type 0} where
       → is_between gap.0 gap.1 n ≡ true → (is_between s e n ≡ true) × (is_some (value_at xs n) ≡ false)
   in-free s e n xs gap rest gaps inside =
       free (in_gaps (gap ∷ rest) n) (is_between s e n) (is_some (value_at xs n)) (gaps.missing n)
-        (or_left (is_between gap.0 gap.1 n) (in_gaps rest n) inside)
+      (or_left (is_between gap.0 gap.1 n) (in_gaps rest n) inside)
 
   -- a number of the first gap is one of them, and has none
   pub in-gap : (s e n : ℕ) (xs : List (ℕ × Span V)) (gap : ℕ × ℕ) (rest : List (ℕ × ℕ)) → AreGaps xs s e (gap ∷ rest)
@@ -130,8 +130,8 @@ module _ {V : Type 0} where
       → s ≤ n → n < gap.0 → is_some (value_at xs n) ≡ true
   below-gap s e n xs gap rest gaps low below =
       full (in_gaps (gap ∷ rest) n) (is_between s e n) (is_some (value_at xs n)) (gaps.missing n)
-        (none-below gap.0 n (gap ∷ rest) (omega arith, gaps.apart.1, gaps.apart.2) below)
-        (between-from s e n low (omega (arith, below, between-high s e gap.0 first.0)))
+      (none-below gap.0 n (gap ∷ rest) (omega arith, gaps.apart.1, gaps.apart.2) below)
+      (between-from s e n low (omega (arith, below, between-high s e gap.0 first.0)))
     where
       first : (is_between s e gap.0 ≡ true) × (value_at xs gap.0 ≡ None)
       first = in-gap s e gap.0 xs gap rest gaps (between-from gap.0 gap.1 gap.0 (omega arith) gaps.apart.1)

@@ -75,8 +75,8 @@ none-below : (low n : ℕ) (xs : List (ℕ × ℕ)) → AreRunsFrom low xs → n
 none-below low n [] runs below = refl
 none-below low n (x ∷ xs) runs below =
     or_from (is_within x n) (has_number xs n)
-      (not-below x n (omega (arith, below, runs.0)) (cases_Bool (is_within x n)))
-      (none-below (suc x.1) n xs runs.2 (omega (arith, below, runs.0, runs.1)))
+    (not-below x n (omega (arith, below, runs.0)) (cases_Bool (is_within x n)))
+    (none-below (suc x.1) n xs runs.2 (omega (arith, below, runs.0, runs.1)))
 
 full : (gap inside has : Bool) → gap ≡ (inside && not has) → gap ≡ false → inside ≡ true → has ≡ true
 full false true true _ _ _ = refl
@@ -99,15 +99,15 @@ pub in-gap : (s e n : ℕ) (xs : List (ℕ × ℕ)) (gap : ℕ × ℕ) (rest : L
     → is_within gap n ≡ true → (is_within (s, e) n ≡ true) × (has_number xs n ≡ false)
 in-gap s e n xs gap rest gaps inside =
     free (has_number (gap ∷ rest) n) (is_within (s, e) n) (has_number xs n) (gaps.missing n)
-      (or_left (is_within gap n) (has_number rest n) inside)
+    (or_left (is_within gap n) (has_number rest n) inside)
 
 -- each of them that is below the first gap is in the set
 pub below-gap : (s e n : ℕ) (xs : List (ℕ × ℕ)) (gap : ℕ × ℕ) (rest : List (ℕ × ℕ)) → AreGaps xs s e (gap ∷ rest)
     → s ≤ n → n < gap.0 → has_number xs n ≡ true
 below-gap s e n xs gap rest gaps low below =
     full (has_number (gap ∷ rest) n) (is_within (s, e) n) (has_number xs n) (gaps.missing n)
-      (none-below gap.0 n (gap ∷ rest) (omega arith, gaps.runs.1, gaps.runs.2) below)
-      (within-from (s, e) n low (omega (arith, below, within-high (s, e) gap.0 first.0)))
+    (none-below gap.0 n (gap ∷ rest) (omega arith, gaps.runs.1, gaps.runs.2) below)
+    (within-from (s, e) n low (omega (arith, below, within-high (s, e) gap.0 first.0)))
   where
     first : (is_within (s, e) gap.0 ≡ true) × (has_number xs gap.0 ≡ false)
     first = in-gap s e gap.0 xs gap rest gaps (within-from gap gap.0 (omega arith) gaps.runs.1)

@@ -216,7 +216,17 @@ impl<C: ClearNodes<u64, u64>> Session<C> {
         ensures { IsStep C.MayRefuse self.old command result self.new }
     {
         self.map.tell_well_formed();
-        let reply = match command {
+        let reply = self.answer(command);
+        self.map.tell_well_formed();
+        reply
+    }
+
+    fn answer(&mut self, command: Command) -> Reply
+        requires tree { IsBTreeWithinLimit self.old.map nat_cmp }
+        ensures { IsBTree nat_cmp self.new.map →
+            IsStep C.MayRefuse self.old command result self.new }
+    {
+        match command {
             Command::Insert(key, value) => self.insert(key, value),
             Command::Get(key) => self.get(key),
             Command::Remove(key) => self.remove(key),
@@ -226,9 +236,7 @@ impl<C: ClearNodes<u64, u64>> Session<C> {
             Command::Prev => self.prev(),
             Command::Put(key, value) => self.put(key, value),
             Command::Take => self.take(),
-        };
-        self.map.tell_well_formed();
-        reply
+        }
     }
 
     fn clear(&mut self) -> Reply
