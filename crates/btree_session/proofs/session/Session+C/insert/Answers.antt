@@ -4,7 +4,7 @@ use Rattle.btree_session.proofs.session.Session+C.insert.Goals as goal
 
 pub returns-in-Ok : goal.returns-in-Ok
 returns-in-Ok g c =
-    let was = rw c.self.view_is at c.requires in
+    let was = rw (← c.self.view_is) at c.requires.tree in
     λ tree.
     let done = c.in-Ok.ensures in
     rw (c.reply_of.ensures, ← c.self.view_is)
@@ -13,7 +13,7 @@ returns-in-Ok g c =
 
 pub returns-in-Err : goal.returns-in-Err
 returns-in-Err g c =
-    let was = rw c.self.view_is at c.requires in
+    let was = rw (← c.self.view_is) at c.requires.tree in
     λ tree.
     rw (← c.self.view_is)
     (insert-refused g.C.NodesMut.MayRefuse _ _ was.0 c.self.invariant tree was.1 c.args.key c.args.value

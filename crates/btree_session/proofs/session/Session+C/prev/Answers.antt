@@ -3,19 +3,19 @@ use Rattle.btree_session.proofs.session.Session+C.prev.Goals as goal
 
 pub returns-in_default : goal.returns-in_default
 returns-in_default g c =
-    let was = rw c.self.view_is at c.requires in
+    let was = rw (← c.self.view_is) at c.requires.tree in
     rw (← c.self.view_is) (prev-nowhere g.C.NodesMut.MayRefuse c.self.inside.map was.0 c.self.inside.held c.in_default.is)
 
 pub returns-in_default-previous_item_address : goal.returns-in_default-previous_item_address
 returns-in_default-previous_item_address g c =
-    let was = rw c.self.view_is at c.requires in
+    let was = rw (← c.self.view_is) at c.requires.tree in
     rw (← c.self.view_is)
     (at_held g.C.NodesMut.MayRefuse c.self.inside.map was.0 c.self.inside.held c.in-Some.held c.in-Some.is _ _
     (prev-none g.C.NodesMut.MayRefuse c.self.inside.map was.0 c.in-Some.held c.in_default-previous_item_address.ensures))
 
 pub returns : goal.returns
 returns g c =
-    let was = rw c.self.view_is at c.requires in
+    let was = rw (← c.self.view_is) at c.requires.tree in
     rw (← c.self.view_is)
     (from_held g.C.NodesMut.MayRefuse c.self.inside.map was.0 c.self.inside.held c.in-Some.held c.in-Some.is _ _ _
     (prev-some g.C.NodesMut.MayRefuse c.self.inside.map was.0 c.in-Some.held

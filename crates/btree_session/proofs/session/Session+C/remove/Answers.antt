@@ -3,7 +3,7 @@ use Rattle.btree_session.proofs.session.Session+C.remove.Goals as goal
 
 pub returns : goal.returns
 returns g c =
-    let was = rw c.self.view_is at c.requires in
+    let was = rw (← c.self.view_is) at c.requires.tree in
     λ tree.
     rw (c.reply_of.ensures, ← c.self.view_is)
     (remove-done g.C.NodesMut.MayRefuse c.self.inside.map c.remove-value.new.self was.0 c.self.inside.held c.self.invariant tree
