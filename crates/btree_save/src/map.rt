@@ -57,7 +57,6 @@ fn map_in_store<K: Spelled + Ord, V: Spelled, C: Fill<Node<K, V>> + Drop>(
 /// each address names what it named.
 ///
 /// It reads each byte twice, and each node once more. For each eight bytes it takes room for at most one node.
-#[tactic(none)]
 pub fn map_of_bytes<K: Spelled + Ord, V: Spelled, C: Fill<Node<K, V>> + Drop>(
     origin: C::Origin,
     bytes: &[u8],
@@ -75,7 +74,6 @@ pub fn map_of_bytes<K: Spelled + Ord, V: Spelled, C: Fill<Node<K, V>> + Drop>(
 /// Writes a map, always as the same bytes.
 ///
 /// It takes memory for the bytes. A writer that fails may have taken some of them.
-#[tactic(none)]
 pub fn save<K: Spelled + Ord, V: Spelled, C: NodesMut<K, V>, A: Allocator, W: Write>(
     alloc: A,
     map: &BTreeMap<K, V, C>,
@@ -93,7 +91,6 @@ pub fn save<K: Spelled + Ord, V: Spelled, C: NodesMut<K, V>, A: Allocator, W: Wr
 /// Opens what a reader gives up to its end, as `map_of_bytes` does.
 ///
 /// It takes memory for the bytes too.
-#[tactic(none)]
 pub fn open<K: Spelled + Ord, V: Spelled, C: Fill<Node<K, V>> + Drop, A: Allocator, R: Read>(
     alloc: A,
     origin: C::Origin,
