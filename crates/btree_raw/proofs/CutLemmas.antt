@@ -1,5 +1,5 @@
--- A node that is written, and then cut if it has an item too many.
-use Rattle.btree_raw.proofs.Common.{◌≡◌, ◌∙◌, ◌∷◌, ◌++◌, [], ℕ, ◌≤◌, List, Option, Some, ap, option_map, refl, subst, sym, Content, Node, view_of, IsSplit, NodeMap, View, most_of, parent_of, size_of, Splits, views, writes_node, CutsAtMedian, HasCount, Overflows}
+-- A node that is cut if it has an item too many.
+use Rattle.btree_raw.proofs.Common.{◌≡◌, ◌∙◌, ◌∷◌, ◌++◌, [], ℕ, ◌≤◌, List, Option, Some, ap, option_map, refl, subst, sym, Content, Node, view_of, IsSplit, NodeMap, View, most_of, parent_of, size_of, Splits, views, HasCount, Overflows}
 use Rattle.std.specs.FinMap as map
 use Rattle.btree_store.specs.ContentLaws.{insert-same}
 use Rattle.btree_view.specs.Edits.{IsOverflowing}
@@ -10,39 +10,6 @@ use Rattle.btree_raw.proofs.StepLemmas.{halves}
 module _ {K V : Type 0} (nodes : Content (Node K V)) (id : ℕ) (node : Node K V) where
   abbrev whole : Content (Node K V)
   whole = map.insert nodes id node
-
-  pub here-after : views whole id ≡ Some (view_of node)
-  here-after = (writes_node nodes whole id node refl).here
-
-  pub over-after : IsOverflowing (view_of node) → Overflows (views whole) id
-  over-after over = record { node = view_of node; here = here-after; over = over }
-
-  pub half-after : (left : Node K V) (kept : ℕ) (median : K × V) (part : View (K × V)) → kept ≡ size_of (view_of left)
-      → IsSplit (view_of node) median (view_of left) part → CutsAtMedian (views whole) (views (map.insert nodes id left)) id kept median part
-  half-after left kept median part counted parts = record {
-    left = view_of left;
-    counted = counted;
-    parts = λ v is. let q : Some (view_of node) ≡ Some v = sym here-after ∙ is in
-        let e : view_of node ≡ v = cc in subst (λ v. IsSplit v median (view_of left) part) e parts;
-    writes_node = record {
-      here = (writes_node nodes (map.insert nodes id left) id left refl).here;
-      others = λ n ne. (writes_node nodes (map.insert nodes id left) id left refl).others n ne ∙ sym ((writes_node nodes whole id node refl).others n ne);
-    };
-  }
-
-  abbrev pub part-after : (left : Node K V) (kept : ℕ) (median : K × V) (part : View (K × V)) → kept ≡ size_of (view_of left)
-      → IsSplit (view_of node) median (view_of left) part → (spare : List ℕ) → CanCut (views whole) id spare → LeavesPart (views (map.insert nodes id left)) part spare
-  part-after left kept median part counted parts spare can = record {
-    whole = views whole;
-    id = id;
-    kept = kept;
-    median = median;
-    half = half-after left kept median part counted parts;
-    can = can;
-  }
-
-  pub stays-after : size_of (view_of node) ≤ most_of (view_of node) → StaysWhole (views whole) (views whole) id
-  stays-after room = record { node = view_of node; here = here-after; room = room; same = refl }
 
   module _ (at : Some node ≡ map.get nodes id) where
     pub here-there : views nodes id ≡ Some (view_of node)

@@ -164,8 +164,7 @@ pub(crate) fn cut_node<K: Drop, V: Drop, C: NodesMut<K, V>>(
     })
 }
 
-/// Inserts an item into a node at an index, and a child after it if one is given. Then it cuts the node as `cut_node` does. It fetches the
-/// node once.
+/// Inserts an item into a node at an index, and a child after it if one is given. Then it cuts the node as `cut_node` does.
 pub(crate) fn add_and_cut<K: Drop, V: Drop, C: NodesMut<K, V>>(
     tree: &mut RawBTree<K, V, C>,
     id: usize,
@@ -182,24 +181,11 @@ pub(crate) fn add_and_cut<K: Drop, V: Drop, C: NodesMut<K, V>>(
     tree.tell_fits();
     let node = tree.node_mut(id);
     node.insert(Offset::from(index), item, child);
-    if !node.is_overflowing() {
-        return None;
-    }
-    let parent = node.parent();
-    let mut part = empty_leaf();
-    let (kept, median) = node.split_into(&mut part);
-    let right = adopt_part(tree, &part, claims);
-    put(tree, right, part);
-    Some(Cut {
-        parent,
-        kept,
-        median,
-        right,
-    })
+    cut_node(tree, id, claims)
 }
 
 /// Inserts a median and a new child into a node, after the child `id`. Then it cuts the node as `cut_node` does. Returns the index of `id`,
-/// and what is left of the cut. It fetches the node once.
+/// and what is left of the cut.
 pub(crate) fn insert_separator<K: Drop, V: Drop, C: NodesMut<K, V>>(
     tree: &mut RawBTree<K, V, C>,
     above: usize,
@@ -218,23 +204,7 @@ pub(crate) fn insert_separator<K: Drop, V: Drop, C: NodesMut<K, V>>(
     let node = tree.node_mut(above);
     let index = node.child_index(id).unwrap();
     node.insert(Offset::from(index), median, Some(right));
-    if !node.is_overflowing() {
-        return (index, None);
-    }
-    let parent = node.parent();
-    let mut part = empty_leaf();
-    let (kept, median) = node.split_into(&mut part);
-    let right = adopt_part(tree, &part, claims);
-    put(tree, right, part);
-    (
-        index,
-        Some(Cut {
-            parent,
-            kept,
-            median,
-            right,
-        }),
-    )
+    (index, cut_node(tree, above, claims))
 }
 
 /// Sets the parent of all children of a node that is not in the tree.
