@@ -14,10 +14,11 @@ use Rattle.btree_image.specs.declared.fault.BadImage.{BadImage}
 use Rattle.btree_image.specs.declared.fault.BadImage.TheVariants.{Magic, Sum, Version}
 use Rattle.btree_image.specs.declared.head.Head.{Head}
 use Rattle.btree_image.specs.Image.{branch, check_sum, number, place, word}
-use Rattle.btree_image.specs.NumberLaws.{wide64}
-use Rattle.btree_image.specs.Pairs.{pair_bytes}
+use Rattle.btree_spelled.specs.NumberLaws.{wide64}
+use Rattle.btree_spelled.specs.Pairs.{pair_bytes}
 use Rattle.btree_image.specs.Reading.{body_at, branch_at, count_at, end_at, head_at, image_at, image_of, internal_at, internal_with, item_at, leaf_at, leaf_with, many, number_at, place_at, this_at, word_at}
-use Rattle.btree_image.specs.Spelled.{Parse, Read}
+use Rattle.btree_image.specs.Parse.{Parse}
+use Rattle.btree_spelled.specs.Spelled.{Read}
 use Rattle.btree_image.specs.Written.{AreBranchesRead, AreItemsRead, AreReadBy, IsItemRead, IsPlaceRead, IsReadBy}
 
 -- ---- words

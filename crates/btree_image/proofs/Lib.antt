@@ -8,4 +8,3 @@ pub mod StoreLemmas
 pub mod NodeLemmas
 pub mod Spelling
 pub mod OneSpelling
-pub mod WiderLemmas

@@ -3,7 +3,7 @@ use Rattle.std.proofs.Common.{◌≡◌, ℕ, suc, ◌-◌, ◌+◌, ◌≤◌, 
 use Rattle.std.proofs.lemmas.List.{append-nil}
 use Rattle.btree_image.specs.declared.fault.Stop.{Stop}
 use Rattle.btree_image.specs.Reading.{◌>>=◌, many}
-use Rattle.btree_image.specs.Spelled.{Parse}
+use Rattle.btree_image.specs.Parse.{Parse}
 
 module _ {X : Type 0} where
   -- what was read before, and what is still read

@@ -8,7 +8,7 @@ use Rattle.btree_view.specs.View.{View, branches_of, children_of, items_of, pare
 use Rattle.btree_view.specs.View.{leaf, internal}
 use Rattle.btree_image.specs.Image.{branch, number, place, word}
 use Rattle.btree_image.specs.Reading.{word_at}
-use Rattle.btree_image.specs.Spelled.{Read}
+use Rattle.btree_spelled.specs.Spelled.{Read}
 use Rattle.btree_image.specs.Written.{AreBranchesRead, AreItemsRead, IsPlaceRead, IsReadBy, IsSizedNode}
 use Rattle.btree_image.proofs.Again.{internal-again, leaf-again}
 

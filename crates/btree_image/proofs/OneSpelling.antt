@@ -5,10 +5,11 @@ use Rattle.std.proofs.lemmas.Bool.{eq-eqb}
 use Rattle.btree_laws.specs.TreeState.{TreeState}
 use Rattle.btree_view.specs.View.{View}
 use Rattle.btree_image.specs.Image.{Image, spelling}
-use Rattle.btree_image.specs.Pairs.{pair_bytes}
+use Rattle.btree_spelled.specs.Pairs.{pair_bytes}
 use Rattle.btree_image.specs.Reading.{◌>>=◌, body_at, end_at, head_at, image_at, image_of, internal_at, leaf_at, many, node_at, place_at, places_at, word_at}
 use Rattle.btree_image.specs.Saved.{AreOnlyBytesOf, IsImageOf}
-use Rattle.btree_image.specs.Spelled.{Parse, Read, Takes}
+use Rattle.btree_image.specs.Parse.{Parse}
+use Rattle.btree_spelled.specs.Spelled.{Read, Takes}
 use Rattle.btree_image.proofs.Spelling.{image-spelled, ok_is, parts}
 
 module _ {X : Type 0} where

@@ -5,7 +5,7 @@ use Rattle.std.specs.List.{flat_map}
 use Rattle.std.proofs.lemmas.Bool.{cases_eq, cases_lt}
 use Rattle.std.proofs.lemmas.List.{append-nil}
 use Rattle.std.proofs.lemmas.List.Concat.{flat_map-cons}
-use Rattle.btree_image.specs.Spelled.{Parse}
+use Rattle.btree_image.specs.Parse.{Parse}
 use Rattle.btree_image.specs.Written.{AreReadBy, IsReadBy}
 
 module _ {X : Type 0} (parse : Parse X) (spell : X → List ℕ) (xs : List X) where

@@ -15,10 +15,11 @@ use Rattle.btree_image.specs.declared.fault.BadImage.TheVariants.{Count, Magic, 
 use Rattle.btree_image.specs.declared.fault.Stop.{Stop}
 use Rattle.btree_image.specs.declared.head.Head.{Head}
 use Rattle.btree_image.specs.Image.{Image, body, branch, check_sum, number, place, spelling, word}
-use Rattle.btree_image.specs.NumberLaws.{AreBytes-rest, AreBytes-take, wide64}
-use Rattle.btree_image.specs.Pairs.{pair_bytes}
+use Rattle.btree_spelled.specs.NumberLaws.{AreBytes-rest, AreBytes-take, wide64}
+use Rattle.btree_spelled.specs.Pairs.{pair_bytes}
 use Rattle.btree_image.specs.Reading.{◌>>=◌, body_at, branch_at, count_at, end_at, found, head_at, image_at, image_of, internal_at, internal_with, item_at, leaf_at, leaf_with, many, node_at, number_at, place_at, places_at, this_at, value_at, word_at}
-use Rattle.btree_image.specs.Spelled.{AreBytes, Parse, Read, Takes}
+use Rattle.btree_image.specs.Parse.{Parse}
+use Rattle.btree_spelled.specs.Spelled.{AreBytes, Read, Takes}
 use Rattle.btree_image.proofs.Again.{head_text}
 
 -- what is read is spelled so

@@ -14,7 +14,7 @@ use Rattle.btree_view.specs.View.{View}
 use Rattle.btree_image.specs.declared.fault.Stop.{Stop}
 use Rattle.btree_image.specs.Saved.{AreAt, ReadsPlaces}
 use Rattle.btree_image.specs.Stored.{with_place}
-use Rattle.btree_image.specs.Spelled.{Parse}
+use Rattle.btree_image.specs.Parse.{Parse}
 use Rattle.btree_image.specs.Reading.{many}
 use Rattle.btree_image.proofs.Loop.{HasRead, begins, ends, goes_on, is_done}
 

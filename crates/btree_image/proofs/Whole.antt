@@ -15,10 +15,10 @@ use Rattle.btree_laws.specs.WellFormed.{IsFormed}
 use Rattle.btree_view.specs.View.{NodeMap, View}
 use Rattle.btree_image.specs.declared.head.Head.{Head}
 use Rattle.btree_image.specs.Image.{Image, body, check_sum, place, word}
-use Rattle.btree_image.specs.Pairs.{pair_bytes}
+use Rattle.btree_spelled.specs.Pairs.{pair_bytes}
 use Rattle.btree_image.specs.Reading.{image_at, image_of}
 use Rattle.btree_image.specs.Saved.{IsImageOf}
-use Rattle.btree_image.specs.Spelled.{Read}
+use Rattle.btree_spelled.specs.Spelled.{Read}
 use Rattle.btree_image.specs.Written.{AreSized, IsPast, IsPlaceRead, head_bytes, places_of}
 use Rattle.btree_image.proofs.Again.{ArePlacesRead, FitsHead, image-again, vacant-again}
 use Rattle.btree_image.proofs.PlaceLemmas.{are-at, length-places, place-each, place-get, used-map, used-of}

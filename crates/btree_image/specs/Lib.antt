@@ -1,12 +1,5 @@
-pub mod Spelled
-pub mod Numbers
-pub mod Pairs
-pub mod NumberLaws
-pub mod Mapped
-pub mod MappedLaws
-pub mod Integers
-pub mod IntegerLaws
 pub mod Image
+pub mod Parse
 pub mod Reading
 pub mod Gives
 pub mod Saved

@@ -11,7 +11,8 @@ use Rattle.btree_image.specs.declared.fault.BadImage.TheVariants.{Short, Magic, 
 use Rattle.btree_image.specs.declared.fault.Stop.{Stop}
 use Rattle.btree_image.specs.declared.head.Head.{Head}
 use Rattle.btree_image.specs.Image.{Image, check_sum}
-use Rattle.btree_image.specs.Spelled.{Parse, Read}
+use Rattle.btree_image.specs.Parse.{Parse}
+use Rattle.btree_spelled.specs.Spelled.{Read}
 
 infixl 10 ◌>>=◌
 abbrev pub ◌>>=◌ : {A B : Type 0} → Result A Stop → (A → Result B Stop) → Result B Stop

@@ -7,7 +7,7 @@ use Rattle.btree_image.specs.declared.fault.ReadError.{ReadError}
 use Rattle.btree_image.specs.declared.fault.ReadError.TheVariants as errors
 use Rattle.btree_image.specs.Image.{Image}
 use Rattle.btree_image.specs.Reading.{image_at}
-use Rattle.btree_image.specs.Spelled.{AreBytes, Read}
+use Rattle.btree_spelled.specs.Spelled.{AreBytes, Read}
 
 -- the nodes at these places, under their numbers, and no others
 abbrev pub AreAt : {A : Type 0} → NodeMap A → List (Option (View A)) → Type 0

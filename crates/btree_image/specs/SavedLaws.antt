@@ -13,7 +13,7 @@ use Rattle.btree_store.specs.Content.{Content}
 use Rattle.btree_store.specs.ContentLaws.{same_content}
 use Rattle.btree_image.specs.Image.{Image}
 use Rattle.btree_image.specs.Saved.{IsImageOf, IsSavedAs}
-use Rattle.btree_image.specs.Spelled.{Read}
+use Rattle.btree_spelled.specs.Spelled.{Read}
 
 module _ {K V : Type 0} where
   leaf-once : (l m : LeafOf K V) → leaf_view l ≡ leaf_view m → l ≡ m

@@ -4,9 +4,10 @@ use Rattle.btree_laws.specs.TreeState.{IsUsed, TreeState}
 use Rattle.btree_view.specs.View.{NodeMap, View, most_of, size_of}
 use Rattle.btree_image.specs.declared.TheConstants.{MAGIC, VERSION}
 use Rattle.btree_image.specs.Image.{branch, number, place, word}
-use Rattle.btree_image.specs.Pairs.{pair_bytes}
+use Rattle.btree_spelled.specs.Pairs.{pair_bytes}
 use Rattle.btree_image.specs.Reading.{branch_at, item_at, place_at}
-use Rattle.btree_image.specs.Spelled.{Parse, Read}
+use Rattle.btree_image.specs.Parse.{Parse}
+use Rattle.btree_spelled.specs.Spelled.{Read}
 
 -- a value's bytes are read as that value, whatever follows them
 abbrev pub IsReadBy : {X : Type 0} → Parse X → (X → List ℕ) → X → Type 0

@@ -3,19 +3,14 @@
 
 mod fault;
 mod head;
-mod more;
-mod numbers;
 mod places;
 mod reading;
-mod signed;
-mod spelled;
 mod sum;
 mod words;
 mod writing;
 
 pub use fault::{BadImage, ReadError, Stop};
 pub use places::read_tree;
-pub use spelled::Spelled;
 pub use sum::check_sum_of;
 pub use writing::bytes_of;
 

@@ -12,10 +12,10 @@ ghost use Rattle.btree_image.specs.declared.fault.ReadError.TheVariants as error
 use crate::fault::ReadError;
 use crate::head::{read_end, read_head};
 use crate::reading::read_place;
-use crate::spelled::Spelled;
 use btree_more_stores::Fill;
 use btree_node::Node;
 use btree_raw::RawBTree;
+use btree_spelled::Spelled;
 
 // Stores the node of a place, if it has one.
 fn store_place<K: Drop, V: Drop, C: Fill<Node<K, V>>>(

@@ -6,11 +6,11 @@ ghost use Rattle.btree_image.specs.Gives.{Gives};
 ghost use Rattle.btree_image.specs.Reading.{branch_at, internal_at, internal_with, item_at, leaf_at, leaf_with, place_at};
 
 use crate::fault::{BadImage, Stop};
-use crate::spelled::Spelled;
 use crate::words::{read_count, read_number, read_value, read_word, stop};
 use btree_item::{INTERNAL_SLOTS, Item, LEAF_SLOTS};
 use btree_leaf::LeafNode;
 use btree_node::Node;
+use btree_spelled::Spelled;
 
 // Reads a key and its value.
 #[tactic(auto, unfolding(crate::specs::Reading::item_at))]

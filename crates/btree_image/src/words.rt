@@ -7,7 +7,7 @@ ghost use Rattle.btree_image.specs.Reading.{count_at, number_at, this_at, value_
 ghost use Rattle.btree_image.specs.Written.{IsReadBy};
 
 use crate::fault::{BadImage, Stop};
-use crate::spelled::Spelled;
+use btree_spelled::Spelled;
 use std::alloc::{AllocError, Allocator};
 
 // A fault where these bytes are left.

@@ -6,17 +6,17 @@ ghost use Rattle.btree_laws.specs.TreeState.{IsBTree, node_map};
 ghost use Rattle.btree_view.specs.View.{branches_of, items_of};
 ghost use Rattle.btree_view.specs.Edits.{is_internal};
 ghost use Rattle.btree_image.specs.Image.{branch, place};
-ghost use Rattle.btree_image.specs.Pairs.{pair_bytes};
+ghost use Rattle.btree_spelled.specs.Pairs.{pair_bytes};
 ghost use Rattle.btree_image.specs.Saved.{AreOnlyBytesOf, IsSavedAs};
 ghost use Rattle.btree_image.specs.Written.{AreBranchesRead, AreItemsRead, AreSized, HasWords, IsItemRead, IsPast, IsPlaceRead, IsSizedNode, head_bytes, places_of};
 
-use crate::spelled::Spelled;
 use crate::sum::check_sum_of;
 use crate::words::{put_number, put_word};
 use crate::{MAGIC, VERSION};
 use btree_item::Item;
 use btree_node::{Node, Nodes, NodesMut};
 use btree_raw::RawBTree;
+use btree_spelled::Spelled;
 use std::alloc::{AllocError, Allocator};
 
 // Appends a key and its value.

@@ -15,4 +15,5 @@ pub mod RangeLaws
 pub mod QueryLemmas
 pub mod SeriesLemmas
 pub mod TwoSetLemmas
+pub mod RunLoop
 pub mod Crossing

@@ -1,5 +1,5 @@
 -- The ranges at a place of the list, and before it.
-use Rattle.std.specs.Prelude.{◌≡◌, ℕ, suc, ◌<◌, ◌≤◌, true, List, Some, slice_get}
+use Rattle.std.specs.Prelude.{◌≡◌, ℕ, suc, ◌<◌, ◌≤◌, true, List, Option, Some, None, slice_get}
 use Rattle.btree_range_set.specs.Ranges.{is_within}
 
 module _ (ranges : List (ℕ × ℕ)) (place n : ℕ) where
@@ -26,3 +26,8 @@ pub record IsRangeAround (ranges : List (ℕ × ℕ)) (n : ℕ) (range : ℕ × 
   pub index : ℕ
   pub listed : slice_get ranges index ≡ Some range
   pub inside : is_within range n ≡ true
+
+-- the least number that a range may begin with after one that ends at `past`, or after none
+abbrev pub low_after : (past : Option ℕ) → ℕ
+low_after None = 0
+low_after (Some past) = suc past

@@ -2,9 +2,11 @@
 ghost use Rattle.std.specs.Prelude.{◌≡◌, IfSome, Some, length};
 ghost use Rattle.std.specs.Iterator.SizeHint.{IsWithinCount};
 ghost use Rattle.std.specs.Iterator.{UpTo, YieldsFirst, YieldsLast, item_count};
+ghost use Rattle.btree_laws.specs.TreeState.{pairs_of};
 ghost use Rattle.btree_range_set.specs.Ranges.{AreRuns};
 
 use crate::RangeSet;
+use btree_map::BTreeMap;
 use btree_node::NodesMut;
 use btree_walk::Iter as Pairs;
 use std::iter::{DoubleEndedIterator, ExactSizeIterator, FusedIterator, IntoIterator, Iterator};
@@ -68,6 +70,13 @@ impl<'a, C: NodesMut<u64, u64>> ExactSizeIterator for Iter<'a, C> {
 
 impl<'a, C: NodesMut<u64, u64>> FusedIterator for Iter<'a, C> {}
 
+// Returns an iterator over the pairs of a map.
+pub(crate) fn over<C: NodesMut<u64, u64>>(map: &BTreeMap<u64, u64, C>) -> Iter<'_, C>
+    ensures { result ≡ pairs_of map.now }
+{
+    Iter { pairs: map.iter() }
+}
+
 impl<C: NodesMut<u64, u64>> RangeSet<C> {
     /// Returns an iterator over the ranges, each as its start and its end, in ascending order and from both ends. They are the maximal runs
     /// of the numbers of the set. A whole walk from the front fetches each node once.
@@ -75,9 +84,7 @@ impl<C: NodesMut<u64, u64>> RangeSet<C> {
         ensures ranges { result ≡ self.now.ranges }
         ensures runs { AreRuns self.now.ranges }
     {
-        Iter {
-            pairs: self.map.iter(),
-        }
+        over(&self.map)
     }
 }
 

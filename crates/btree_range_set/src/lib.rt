@@ -8,6 +8,7 @@ mod extension;
 mod fmt;
 mod gaps;
 mod iter;
+mod maps;
 mod overlapping;
 mod owned;
 mod queries;

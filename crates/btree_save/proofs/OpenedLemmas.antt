@@ -11,7 +11,7 @@ use Rattle.btree_image.specs.declared.fault.ReadError.TheVariants as reads
 use Rattle.btree_image.specs.Reading.{image_at}
 use Rattle.btree_image.specs.Saved.{IsErrorOf, IsSavedAs}
 use Rattle.btree_image.specs.SavedLaws.{saved-once}
-use Rattle.btree_image.specs.Spelled.{Read}
+use Rattle.btree_spelled.specs.Spelled.{Read}
 use Rattle.btree_save.specs.declared.error.OpenError.{OpenError}
 use Rattle.btree_save.specs.declared.error.OpenError.TheVariants as errors
 use Rattle.btree_save.specs.Errors.{error_of}

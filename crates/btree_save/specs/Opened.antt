@@ -8,7 +8,7 @@ use Rattle.btree_valid.specs.Faults.{IsRawVerdict}
 use Rattle.btree_image.specs.declared.fault.BadImage.{BadImage}
 use Rattle.btree_image.specs.Reading.{image_at}
 use Rattle.btree_image.specs.Saved.{AreOnlyBytesOf, IsSavedAs}
-use Rattle.btree_image.specs.Spelled.{Read}
+use Rattle.btree_spelled.specs.Spelled.{Read}
 use Rattle.btree_save.specs.declared.error.OpenError.{OpenError}
 use Rattle.btree_save.specs.declared.error.OpenError.TheVariants as errors
 

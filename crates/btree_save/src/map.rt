@@ -10,10 +10,11 @@ ghost use Rattle.btree_save.specs.Opened.{IsErrorFrom, IsOpenedFrom, IsRefusedBy
 
 use crate::error::{OpenError, SaveError, of_read};
 use btree_ext::BTreeExt;
-use btree_image::{Spelled, bytes_of, read_tree};
+use btree_image::{bytes_of, read_tree};
 use btree_map::BTreeMap;
 use btree_more_stores::{Fill, SlotStore};
 use btree_node::{Node, NodesMut};
+use btree_spelled::Spelled;
 use std::alloc::{AllocError, Allocator, Global};
 use std::io::{Read, Write};
 

@@ -9,6 +9,7 @@ mod elements;
 mod extension;
 mod fmt;
 mod intersection;
+mod maps;
 mod peeked;
 mod set;
 mod splitting;

@@ -1,7 +1,7 @@
 use Rattle.std.proofs.Common.{◌≡◌, ◌≢◌, ℕ, zero, suc, Bool, List, refl}
 use Rattle.btree_image.specs.declared.fault.BadImage.TheVariants.{Kind}
 use Rattle.btree_image.specs.Reading.{node_at, place_at, stop}
-use Rattle.btree_image.specs.Spelled.{Read}
+use Rattle.btree_spelled.specs.Spelled.{Read}
 use Rattle.btree_image.proofs.reading.read_place.Goals as goal
 
 -- a place of another kind

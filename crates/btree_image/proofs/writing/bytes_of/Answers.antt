@@ -2,7 +2,7 @@ use Rattle.std.proofs.Common.{◌≡◌, Ok, List, ℕ, ◌++◌, ◌∙◌, ◌
 use Rattle.std.specs.List.{flat_map}
 use Rattle.btree_laws.specs.TreeState.{node_map}
 use Rattle.btree_image.specs.Image.{check_sum, place, spelling, word}
-use Rattle.btree_image.specs.Pairs.{pair_bytes}
+use Rattle.btree_spelled.specs.Pairs.{pair_bytes}
 use Rattle.btree_image.specs.Reading.{image_at}
 use Rattle.btree_image.specs.Saved.{AreOnlyBytesOf, IsSavedAs}
 use Rattle.btree_image.specs.Written.{head_bytes, places_of}

@@ -2,7 +2,7 @@ use Rattle.std.proofs.Common.{◌+◌, drop, arith}
 use Rattle.btree_node.specs.Node.{view_of}
 use Rattle.btree_view.specs.View.{branches_of}
 use Rattle.btree_image.specs.Image.{branch, word}
-use Rattle.btree_image.specs.Pairs.{pair_bytes}
+use Rattle.btree_spelled.specs.Pairs.{pair_bytes}
 use Rattle.btree_image.specs.Reading.{branch_at}
 use Rattle.btree_image.proofs.Again.{branch-again}
 use Rattle.btree_image.proofs.NodeLemmas.{size-branches}

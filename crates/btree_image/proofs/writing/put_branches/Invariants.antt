@@ -2,7 +2,7 @@ use Rattle.btree_node.specs.Node.{view_of}
 use Rattle.btree_view.specs.View.{branches_of}
 use Rattle.btree_image.proofs.Put.{HasPut}
 use Rattle.btree_image.specs.Image.{branch}
-use Rattle.btree_image.specs.Pairs.{pair_bytes}
+use Rattle.btree_spelled.specs.Pairs.{pair_bytes}
 use Rattle.btree_image.specs.Reading.{branch_at}
 use Rattle.btree_image.proofs.writing.put_branches.Given as goal
 

@@ -1,7 +1,7 @@
 use Rattle.std.proofs.Common.{arith}
 use Rattle.btree_node.specs.Node.{view_of}
 use Rattle.btree_view.specs.View.{items_of}
-use Rattle.btree_image.specs.Pairs.{pair_bytes}
+use Rattle.btree_spelled.specs.Pairs.{pair_bytes}
 use Rattle.btree_image.specs.Reading.{item_at}
 use Rattle.btree_image.proofs.Put.{drop-get, get-none, put-all, put-one}
 use Rattle.btree_image.proofs.writing.put_items.Goals as goal

@@ -5,7 +5,7 @@ use Rattle.std.proofs.lemmas.Result.{on_ok_weaker}
 use Rattle.btree_node.specs.Node.{view_of}
 use Rattle.btree_view.specs.View.{items_of, parent_of, size_of}
 use Rattle.btree_image.specs.Image.{number, place, word}
-use Rattle.btree_image.specs.Pairs.{pair_bytes}
+use Rattle.btree_spelled.specs.Pairs.{pair_bytes}
 use Rattle.btree_image.specs.Written.{AreItemsRead, IsPlaceRead}
 use Rattle.btree_image.proofs.NodeLemmas.{leaf-read, leaf-text}
 use Rattle.btree_image.proofs.Put.{put-two}

@@ -2,7 +2,7 @@ use Rattle.std.proofs.Common.{◌≡◌, ◌++◌, ℕ, subst, refl, arith}
 use Rattle.std.specs.List.{flat_map}
 use Rattle.btree_laws.specs.TreeState.{node_map}
 use Rattle.btree_image.specs.Image.{place}
-use Rattle.btree_image.specs.Pairs.{pair_bytes}
+use Rattle.btree_spelled.specs.Pairs.{pair_bytes}
 use Rattle.btree_image.specs.Written.{places_of}
 use Rattle.btree_image.proofs.Whole.{placed-none, placed-one}
 use Rattle.btree_image.proofs.writing.put_places.Goals as goal
