@@ -6,9 +6,10 @@ use Rattle.std.proofs.lemmas.Bool.{and_from, and_parts, cases_Bool, eq-eqb, eqb-
 use Rattle.std.specs.Cmp.Lexicographic.{pointwise_decides}
 use Rattle.btree_map.specs.Comparison.{pair_eq}
 use Rattle.btree_range_map.specs.declared.span.Span.{Span}
-use Rattle.btree_range_map.specs.Gaps.{AreApartFrom, AreGaps, in_gaps}
+use Rattle.btree_range_set.specs.CallerLaws.{gaps-below, gaps-first, gaps-none}
+use Rattle.btree_range_map.specs.Gaps.{AreGaps}
 use Rattle.btree_range_map.specs.SameRanges.{ranges_eq, span_eq}
-use Rattle.btree_range_map.specs.Ranges.{Overlaps, OverlapsNone, TellsSame, is_between, is_within, meets, ranges_meeting, value_at}
+use Rattle.btree_range_map.specs.Ranges.{Overlaps, OverlapsNone, TellsSame, has_value, is_between, is_within, meets, ranges_meeting, value_at}
 
 -- ---- a number between two others
 -- one from a start to below an end is between them
@@ -79,30 +80,6 @@ module _ {V : Type 0} where
     by false _ later some = let one = some later in found one.number one.value one.inside one.has (cases_Bool (is_within y one.number))
 
 -- ---- gaps
-not-below : (s e n : ℕ) → n < s → (is_between s e n ≡ true) ⊎ (is_between s e n ≡ false) → is_between s e n ≡ false
-not-below s e n below (inr out) = out
-not-below s e n below (inl inside) = absurd (omega (arith, below, between-low s e n inside))
-
--- gaps from a number on have none below it
-none-below : (low n : ℕ) (gaps : List (ℕ × ℕ)) → AreApartFrom low gaps → n < low → in_gaps gaps n ≡ false
-none-below low n [] apart below = refl
-none-below low n (gap ∷ gaps) apart below =
-    or_from (is_between gap.0 gap.1 n) (in_gaps gaps n)
-    (not-below gap.0 gap.1 n (omega (arith, below, apart.0)) (cases_Bool (is_between gap.0 gap.1 n)))
-    (none-below (suc gap.1) n gaps apart.2 (omega (arith, below, apart.0, apart.1)))
-
-full : (gap inside has : Bool) → gap ≡ (inside && not has) → gap ≡ false → inside ≡ true → has ≡ true
-full false true true _ _ _ = refl
-full false true false is _ _ = absurd (cc)
-full false false has _ _ is = absurd (cc)
-full true inside has _ is _ = absurd (cc)
-
-free : (gap inside has : Bool) → gap ≡ (inside && not has) → gap ≡ true → (inside ≡ true) × (has ≡ false)
-free true true false _ _ = (refl, refl)
-free true true true is _ = absurd (cc)
-free true false has is _ = absurd (cc)
-free false inside has _ is = absurd (cc)
-
 module _ {V : Type 0} where
   valueless : (value : Option V) → is_some value ≡ false → value ≡ None
   valueless None _ = refl
@@ -110,31 +87,19 @@ module _ {V : Type 0} where
 
   -- if there is no gap, each of the numbers has a value
   pub no-gap : (s e n : ℕ) (xs : List (ℕ × Span V)) → AreGaps xs s e [] → is_between s e n ≡ true → is_some (value_at xs n) ≡ true
-  no-gap s e n xs gaps inside = full false (is_between s e n) (is_some (value_at xs n)) (gaps.missing n) refl inside
-
-  in-free : (s e n : ℕ) (xs : List (ℕ × Span V)) (gap : ℕ × ℕ) (rest : List (ℕ × ℕ)) → AreGaps xs s e (gap ∷ rest)
-      → is_between gap.0 gap.1 n ≡ true → (is_between s e n ≡ true) × (is_some (value_at xs n) ≡ false)
-  in-free s e n xs gap rest gaps inside =
-      free (in_gaps (gap ∷ rest) n) (is_between s e n) (is_some (value_at xs n)) (gaps.missing n)
-      (or_left (is_between gap.0 gap.1 n) (in_gaps rest n) inside)
+  no-gap s e n xs gaps inside = gaps-none (has_value xs) s e n gaps inside
 
   -- a number of the first gap is one of them, and has none
   pub in-gap : (s e n : ℕ) (xs : List (ℕ × Span V)) (gap : ℕ × ℕ) (rest : List (ℕ × ℕ)) → AreGaps xs s e (gap ∷ rest)
       → is_between gap.0 gap.1 n ≡ true → (is_between s e n ≡ true) × (value_at xs n ≡ None)
   in-gap s e n xs gap rest gaps inside =
-      let is = in-free s e n xs gap rest gaps inside in
+      let is = gaps-first (has_value xs) s e n gap rest gaps inside in
       (is.0, valueless (value_at xs n) is.1)
 
   -- each of them that is below the first gap has one
   pub below-gap : (s e n : ℕ) (xs : List (ℕ × Span V)) (gap : ℕ × ℕ) (rest : List (ℕ × ℕ)) → AreGaps xs s e (gap ∷ rest)
       → s ≤ n → n < gap.0 → is_some (value_at xs n) ≡ true
-  below-gap s e n xs gap rest gaps low below =
-      full (in_gaps (gap ∷ rest) n) (is_between s e n) (is_some (value_at xs n)) (gaps.missing n)
-      (none-below gap.0 n (gap ∷ rest) (omega arith, gaps.apart.1, gaps.apart.2) below)
-      (between-from s e n low (omega (arith, below, between-high s e gap.0 first.0)))
-    where
-      first : (is_between s e gap.0 ≡ true) × (value_at xs gap.0 ≡ None)
-      first = in-gap s e gap.0 xs gap rest gaps (between-from gap.0 gap.1 gap.0 (omega arith) gaps.apart.1)
+  below-gap s e n xs gap rest gaps low below = gaps-below (has_value xs) s e n gap rest gaps low below
 
 pub ruleset range_laws = (value-meeting, none-meet, some-meet, no-gap, in-gap, below-gap)
 

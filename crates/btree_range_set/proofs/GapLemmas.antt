@@ -9,7 +9,7 @@ use Rattle.btree_range_set.specs.Ranges.{meets}
 use Rattle.btree_range_set.proofs.RunLemmas.{above-not-within, below-not-within, none-below, weaken}
 
 -- ---- the ranges that have one of the numbers
-runs-filtered : (test : ℕ × ℕ → Bool) (low : ℕ) (xs : List (ℕ × ℕ)) → AreRunsFrom low xs → AreRunsFrom low (filter test xs)
+pub runs-filtered : (test : ℕ × ℕ → Bool) (low : ℕ) (xs : List (ℕ × ℕ)) → AreRunsFrom low xs → AreRunsFrom low (filter test xs)
 runs-filtered test low [] runs = tt
 runs-filtered test low (x ∷ xs) runs = by (test x) (runs-filtered test (suc x.1) xs runs.2) where
   by : (b : Bool) → AreRunsFrom (suc x.1) (filter test xs) → AreRunsFrom low (cond b (x ∷ filter test xs) (filter test xs))

@@ -11,6 +11,7 @@ pub mod ClearLemmas
 pub mod CutLemmas
 pub mod GapLemmas
 pub mod MeetLemmas
+pub mod CountLemmas
 pub mod RangeLaws
 pub mod QueryLemmas
 pub mod SeriesLemmas

@@ -5,7 +5,7 @@ use Rattle.std.proofs.Common.{◌≡◌, ◌≤◌, ◌<◌, ◌∙◌, ℕ, suc
 use Rattle.std.proofs.lemmas.Bool.{and_from, and_parts, cases_Bool, eq-eqb, eqb-true, le-leb, leb-true, lt-ltb, ltb-true, or_from, or_left, or_right}
 use Rattle.std.specs.Cmp.Lexicographic.{pointwise_decides}
 use Rattle.btree_map.specs.Comparison.{pair_eq}
-use Rattle.btree_range_set.specs.Gaps.{AreGaps}
+use Rattle.btree_range_set.specs.Gaps.{AreGaps, AreGapsOf}
 use Rattle.btree_range_set.specs.SameRanges.{ranges_eq}
 use Rattle.btree_range_set.specs.Ranges.{AreRunsFrom, Overlaps, OverlapsNone, has_number, is_within, meets, ranges_meeting}
 
@@ -90,27 +90,41 @@ free true true true is _ = absurd (cc)
 free true false has is _ = absurd (cc)
 free false inside has _ is = absurd (cc)
 
+-- of gaps: if there is none, each of the numbers passes the test
+pub gaps-none : (has : ℕ → Bool) (s e n : ℕ) → AreGapsOf has s e [] → is_within (s, e) n ≡ true → has n ≡ true
+gaps-none has s e n gaps inside = full false (is_within (s, e) n) (has n) (gaps.missing n) refl inside
+
+-- a number of the first one is one of them, and does not
+pub gaps-first : (has : ℕ → Bool) (s e n : ℕ) (gap : ℕ × ℕ) (rest : List (ℕ × ℕ)) → AreGapsOf has s e (gap ∷ rest)
+    → is_within gap n ≡ true → (is_within (s, e) n ≡ true) × (has n ≡ false)
+gaps-first has s e n gap rest gaps inside =
+    free (has_number (gap ∷ rest) n) (is_within (s, e) n) (has n) (gaps.missing n)
+    (or_left (is_within gap n) (has_number rest n) inside)
+
+-- each of them that is below it does
+pub gaps-below : (has : ℕ → Bool) (s e n : ℕ) (gap : ℕ × ℕ) (rest : List (ℕ × ℕ)) → AreGapsOf has s e (gap ∷ rest)
+    → s ≤ n → n < gap.0 → has n ≡ true
+gaps-below has s e n gap rest gaps low below =
+    full (has_number (gap ∷ rest) n) (is_within (s, e) n) (has n) (gaps.missing n)
+    (none-below gap.0 n (gap ∷ rest) (omega arith, gaps.runs.1, gaps.runs.2) below)
+    (within-from (s, e) n low (omega (arith, below, within-high (s, e) gap.0 first.0)))
+  where
+    first : (is_within (s, e) gap.0 ≡ true) × (has gap.0 ≡ false)
+    first = gaps-first has s e gap.0 gap rest gaps (within-from gap gap.0 (omega arith) gaps.runs.1)
+
 -- if there is no gap, each of the numbers is in the set
 pub no-gap : (s e n : ℕ) (xs : List (ℕ × ℕ)) → AreGaps xs s e [] → is_within (s, e) n ≡ true → has_number xs n ≡ true
-no-gap s e n xs gaps inside = full false (is_within (s, e) n) (has_number xs n) (gaps.missing n) refl inside
+no-gap s e n xs gaps inside = gaps-none (has_number xs) s e n gaps inside
 
 -- a number of the first gap is one of them, and not in the set
 pub in-gap : (s e n : ℕ) (xs : List (ℕ × ℕ)) (gap : ℕ × ℕ) (rest : List (ℕ × ℕ)) → AreGaps xs s e (gap ∷ rest)
     → is_within gap n ≡ true → (is_within (s, e) n ≡ true) × (has_number xs n ≡ false)
-in-gap s e n xs gap rest gaps inside =
-    free (has_number (gap ∷ rest) n) (is_within (s, e) n) (has_number xs n) (gaps.missing n)
-    (or_left (is_within gap n) (has_number rest n) inside)
+in-gap s e n xs gap rest gaps inside = gaps-first (has_number xs) s e n gap rest gaps inside
 
 -- each of them that is below the first gap is in the set
 pub below-gap : (s e n : ℕ) (xs : List (ℕ × ℕ)) (gap : ℕ × ℕ) (rest : List (ℕ × ℕ)) → AreGaps xs s e (gap ∷ rest)
     → s ≤ n → n < gap.0 → has_number xs n ≡ true
-below-gap s e n xs gap rest gaps low below =
-    full (has_number (gap ∷ rest) n) (is_within (s, e) n) (has_number xs n) (gaps.missing n)
-    (none-below gap.0 n (gap ∷ rest) (omega arith, gaps.runs.1, gaps.runs.2) below)
-    (within-from (s, e) n low (omega (arith, below, within-high (s, e) gap.0 first.0)))
-  where
-    first : (is_within (s, e) gap.0 ≡ true) × (has_number xs gap.0 ≡ false)
-    first = in-gap s e gap.0 xs gap rest gaps (within-from gap gap.0 (omega arith) gaps.runs.1)
+below-gap s e n xs gap rest gaps low below = gaps-below (has_number xs) s e n gap rest gaps low below
 
 pub ruleset range_laws = (has-meeting, none-meet, some-meet, no-gap, in-gap, below-gap)
 

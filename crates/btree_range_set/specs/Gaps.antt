@@ -4,10 +4,14 @@ use Rattle.std.specs.Prelude.{◌≡◌, ℕ, Bool, not, ◌&&◌, nat_lt, List,
 use Rattle.std.specs.List.{filter}
 use Rattle.btree_range_set.specs.Ranges.{AreRuns, has_number, is_within}
 
--- the maximal runs, in order, of the numbers from `start` up to `end` that are in none of the ranges
-pub record AreGaps (ranges : List (ℕ × ℕ)) (start end : ℕ) (gaps : List (ℕ × ℕ)) : Type 0 where
+-- the maximal runs, in order, of the numbers from `start` up to `end` that do not pass a test
+pub record AreGapsOf (has : ℕ → Bool) (start end : ℕ) (gaps : List (ℕ × ℕ)) : Type 0 where
   pub runs : AreRuns gaps
-  pub missing : (n : ℕ) → has_number gaps n ≡ (is_within (start, end) n && not (has_number ranges n))
+  pub missing : (n : ℕ) → has_number gaps n ≡ (is_within (start, end) n && not (has n))
+
+-- of those that are in none of the ranges
+abbrev pub AreGaps : (ranges : List (ℕ × ℕ)) → (start end : ℕ) → (gaps : List (ℕ × ℕ)) → Type 0
+AreGaps ranges start end gaps = AreGapsOf (has_number ranges) start end gaps
 
 -- from `start` to the first range, from its end to the next one, and so on to `end`
 abbrev pub between : (start end : ℕ) → List (ℕ × ℕ) → List (ℕ × ℕ)

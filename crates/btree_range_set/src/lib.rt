@@ -3,8 +3,10 @@
 
 mod algebra;
 mod comparison;
+mod counts;
 mod edits;
 mod extension;
+mod fits;
 mod fmt;
 mod gaps;
 mod iter;

@@ -1,0 +1,20 @@
+-- The first of some numbers from which so many in a row are free.
+use Rattle.std.specs.Prelude.{◌≡◌, ℕ, ◌+◌, ◌≤◌, Bool, true, false}
+use Rattle.btree_range_set.specs.Ranges.{is_within}
+
+-- `has` tells which numbers are taken
+module _ (has : ℕ → Bool) (start end size : ℕ) where
+  -- the `size` numbers from `at` on are from `start` up to `end`, and free
+  pub record IsFreeRun (at : ℕ) : Type 0 where
+    pub from : start ≤ at
+    pub to : at + size ≤ end
+    pub free : (n : ℕ) → is_within (at, at + size) n ≡ true → has n ≡ false
+
+  -- this is the least number with that
+  pub record IsFirstFit (at : ℕ) : Type 0 where
+    pub run : IsFreeRun at
+    pub least : (other : ℕ) → IsFreeRun other → at ≤ other
+
+  -- there is no such number
+  abbrev pub FitsNowhere : Type 0
+  FitsNowhere = (at : ℕ) → IsFreeRun at → ⊥
