@@ -57,6 +57,7 @@ pub use Rattle.btree_node.specs.Node
 pub use Rattle.btree_node.specs.NodeLends
 pub use Rattle.btree_node.specs.StoreLends
 pub use Rattle.btree_owned_walk.specs.Leaving
+pub use Rattle.btree_range_map.specs.Counts as RangeMapCounts
 pub use Rattle.btree_range_map.specs.Gaps as RangeMapGaps
 pub use Rattle.btree_range_map.specs.Places as RangeMapPlaces
 pub use Rattle.btree_range_map.specs.Ranges as RangeMapRanges
@@ -65,6 +66,8 @@ pub use Rattle.btree_range_map.specs.SameRanges as RangeMapSame
 pub use Rattle.btree_range_map.specs.Series as RangeMapSeries
 pub use Rattle.btree_range_map.specs.State as RangeMapState
 pub use Rattle.btree_range_map.specs.Updates as RangeMapUpdates
+pub use Rattle.btree_range_set.specs.Counts
+pub use Rattle.btree_range_set.specs.FirstFit
 pub use Rattle.btree_range_set.specs.Gaps
 pub use Rattle.btree_range_set.specs.Places
 pub use Rattle.btree_range_set.specs.Ranges
@@ -126,6 +129,7 @@ pub use Rattle.btree_find.specs.CallerLaws as FindLaws
 pub use Rattle.btree_ext.specs.CallerLaws as EditLaws
 pub use Rattle.btree_map.specs.CallerLaws as MapLaws
 pub use Rattle.btree_range_set.specs.CallerLaws as RangeLaws
+pub use Rattle.btree_range_set.specs.CountLaws
 pub use Rattle.btree_range_map.specs.CallerLaws as RangeMapLaws
 pub use Rattle.btree_range_map.proofs.UpdateLaws
 pub use Rattle.btree_valid.proofs.ReadLaws

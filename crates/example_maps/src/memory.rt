@@ -1,7 +1,7 @@
 //! The memory of a machine, and who owns which addresses: a map of ranges. Two regions of one owner that touch are one region.
-ghost use Rattle.std.specs.Prelude.{◌≡◌, ◌+◌, IfNone, IfOk, IfSome, None, OnErr, OnOk};
+ghost use Rattle.std.specs.Prelude.{◌≡◌, IfNone, IfOk, IfSome, None, OnErr, OnOk};
 ghost use Rattle.btree_slab.specs.RangeMapRanges.{IsAssigned, IsCleared, IsMaximalRun, range_now, value_at};
-ghost use Rattle.example_maps.specs.Memory.{AreFreeBelow, HasNoRoom, Reserves};
+ghost use Rattle.example_maps.specs.Memory.{Reserves};
 
 use btree_slab::range_map::{RangeMap, RangeRefused, Span};
 use btree_slab::store::NodesMut;
@@ -15,26 +15,7 @@ pub enum Owner {
     Process(u32),
 }
 
-// Returns `size` free addresses in a row below `end`, from the first of them up to the one after the last.
-fn first_free<C: NodesMut<u64, Span<Owner>>>(
-    memory: &RangeMap<Owner, C>,
-    size: u64,
-    end: u64,
-) -> Option<(u64, u64)>
-    ensures free { IfSome result (AreFreeBelow end memory.now) }
-    ensures size { IfSome result (λ run. run.1 ≡ run.0 + size) }
-    ensures none { IfNone result (HasNoRoom end size memory.now) }
-{
-    let mut gaps = memory.gaps(0, end);
-    while let Some((start, last)) = gaps.next() {
-        if size <= last.saturating_sub(start) {
-            return Some((start, start + size));
-        }
-    }
-    None
-}
-
-/// Reserves `size` addresses in a row that are free, below `end`, and returns the first of them. Returns `None`, and nothing changes, if
+/// Reserves the first `size` addresses in a row below `end` that are free, and returns the first one. Returns `None`, and nothing changes, if
 /// there are no such addresses.
 pub fn reserve<C: NodesMut<u64, Span<Owner>>>(
     memory: &mut RangeMap<Owner, C>,
@@ -45,10 +26,10 @@ pub fn reserve<C: NodesMut<u64, Span<Owner>>>(
     ensures reserved { IfOk result (Reserves end size owner memory.old memory.new) }
     ensures kept { OnErr result (memory.new.ranges ≡ memory.old.ranges) }
 {
-    let Some((start, last)) = first_free(memory, size, end) else {
+    let Some(start) = memory.first_fit(0, end, size) else {
         return Ok(None);
     };
-    memory.insert(start, last, owner)?;
+    memory.insert(start, start + size, owner)?;
     Ok(Some(start))
 }
 

@@ -44,6 +44,38 @@ const OVERLAPS: [(u64, u64, bool); 12] = [
     (3, 1, false),
 ];
 
+// Some numbers, and how many of them have a value in `FOUR`.
+const COUNTS: [(u64, u64, u64); 10] = [
+    (0, 1, 0),
+    (0, 2, 1),
+    (3, 5, 2),
+    (1, 6, 5),
+    (5, 11, 2),
+    (6, 10, 0),
+    (0, u64::MAX, 8),
+    (11, u64::MAX - 1, 1),
+    (2, 2, 0),
+    (3, 1, 0),
+];
+
+// Where the first run of so many numbers begins that have no value in `FOUR`: the start, the end, how many, and the run.
+const FITS: [(u64, u64, u64, Option<u64>); 14] = [
+    (0, 20, 1, Some(0)),
+    (0, 20, 2, Some(6)),
+    (0, 20, 4, Some(6)),
+    (0, 20, 5, Some(11)),
+    (0, 20, 9, Some(11)),
+    (0, 20, 10, None),
+    (2, 20, 1, Some(6)),
+    (8, 20, 2, Some(8)),
+    (8, 20, 3, Some(11)),
+    (0, u64::MAX, u64::MAX - 13, Some(11)),
+    (0, u64::MAX, u64::MAX - 12, None),
+    (12, 3, 1, None),
+    (2, 2, 0, Some(2)),
+    (3, 2, 0, None),
+];
+
 fn ask_four<C: ClearNodes<u64, Span<u64>> + Drop>(rt: &impl Abort, origin: C::Origin) {
     let mut map: RangeMap<u64, C> = RangeMap::new(origin);
     fill(rt, &mut map, FOUR);
@@ -77,6 +109,21 @@ fn overlap_four<C: ClearNodes<u64, Span<u64>> + Drop>(rt: &impl Abort, origin: C
     }
 }
 
+fn measure_four<C: ClearNodes<u64, Span<u64>> + Drop>(rt: &impl Abort, origin: C::Origin) {
+    let mut map: RangeMap<u64, C> = RangeMap::new(origin);
+    fill(rt, &mut map, FOUR);
+    for (start, end, count) in COUNTS {
+        assert_same(rt, (start, end, map.count(start, end)), (start, end, count));
+    }
+    for (start, end, size, fit) in FITS {
+        assert_same(
+            rt,
+            (start, size, map.first_fit(start, end, size)),
+            (start, size, fit),
+        );
+    }
+}
+
 // Checks that a map has no range.
 fn check_none<C: NodesMut<u64, Span<u64>>>(rt: &impl Abort, map: &RangeMap<u64, C>) {
     assert_same(
@@ -86,6 +133,8 @@ fn check_none<C: NodesMut<u64, Span<u64>>>(rt: &impl Abort, map: &RangeMap<u64, 
     );
     assert_same(rt, (copied(map.first()), copied(map.last())), (None, None));
     assert_same(rt, map.overlaps(0, u64::MAX), false);
+    assert_same(rt, map.count(0, u64::MAX), 0);
+    assert_same(rt, map.first_fit(3, 9, 6), Some(3));
     assert_same(rt, map.store().len(), 0);
 }
 
@@ -102,6 +151,7 @@ fn ask_none<C: ClearNodes<u64, Span<u64>> + Drop>(rt: &impl Abort, origin: C::Or
 fn finds_ranges(rt: HostRuntime) {
     ask_four::<Heap>(&rt, rt.alloc());
     overlap_four::<Heap>(&rt, rt.alloc());
+    measure_four::<Heap>(&rt, rt.alloc());
     ask_none::<Heap>(&rt, rt.alloc());
 }
 

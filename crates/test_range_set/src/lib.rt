@@ -10,6 +10,8 @@ mod checks;
 #[cfg(test)]
 mod extension;
 #[cfg(test)]
+mod maps;
+#[cfg(test)]
 mod owned;
 #[cfg(test)]
 mod queries;
