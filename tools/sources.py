@@ -12,6 +12,9 @@ USUAL = {
     "k": "K", "x": "K × V", "id": "ℕ", "place": "ℕ", "index": "ℕ", "levels": "ℕ", "value": "V", "was": "V", "is": "V", "w": "V",
     "K": "RattleType", "V": "RattleType", "C": "RattleType", "O": "RattleType", "cause": "Cause", "MayRefuse": "Content (Node K V) → Type",
 }
+FUNCTION = re.compile(r"^( *)(pub(?:\([\w:]+\))? )?(?:const |unsafe )*fn (\w+)")
+OPENS = re.compile(r"^(?:pub )?(trait|impl)\b(.*)$")
+ALIAS = re.compile(r"^pub type (\w+)[^=]* = (\w+)", re.M)
 WORD = re.compile(r"^( *)(?:abbrev pub|pub record|pub data) (\S+) (.*)$")
 
 
@@ -160,3 +163,72 @@ def cited(text, known):
         if crate:
             found.add((crate, module, there or rest.split(".")[0]))
     return found
+
+
+def exported():
+    """The names that `btree_slab` and `btree_save` export, by the crate that has them."""
+    found = {}
+    for library in ("btree_slab", "btree_save"):
+        for crate, names in re.findall(r"pub use (\w+)(?:::\w+)*::\{?([\w\s,]+)\}?;", read(f"crates/{library}/src/lib.rt")):
+            own = crate if crate.startswith("btree_") else library
+            found.setdefault(own, set()).update(it.strip() for it in names.split(",") if it.strip())
+    return found
+
+
+def public_types(exports, order):
+    """The types and traits that are exported, those that an exported name stands for included."""
+    types = {name for names in exports.values() for name in names}
+    for crate in order:
+        for path in files_below(f"crates/{crate}/src", ".rt"):
+            types |= {of for name, of in ALIAS.findall(read(path)) if name in types}
+    return types
+
+
+def without_parameters(text):
+    """What follows the parameters in angle brackets with which a text may begin."""
+    depth = 0
+    for at, sign in enumerate(text):
+        depth += (sign == "<") - (sign == ">" and text[at - 1] != "-")
+        if depth == 0:
+            return text[at + (sign == ">") :].strip()
+    return text
+
+
+def block(lines, at):
+    """The lines from one to the brace that ends its block at the same indentation."""
+    indent = len(lines[at]) - len(lines[at].lstrip())
+    for to in range(at + 1, len(lines)):
+        if lines[to].startswith(" " * indent + "}"):
+            return lines[at : to + 1]
+    return lines[at:]
+
+
+def signature(lines, at):
+    """The signature and the clauses of the function that begins at a line."""
+    indent, found, clauses = len(lines[at]) - len(lines[at].lstrip()), [], False
+    for line in lines[at:]:
+        if line == " " * indent + "{":
+            break
+        found.append(line)
+        clauses = clauses or bool(re.match(r" *(requires|ensures)\b", line))
+        if line.endswith(";") or (not clauses and line.endswith("{")):
+            break
+    return found
+
+
+def opened(inner):
+    """What the block of a trait or an impl is about: its type, whether it is a trait, and whether it is the impl of one."""
+    opens = OPENS.match(inner[0])
+    header = next(to for to, text in enumerate(inner) if "{" in text)
+    is_trait, of = opens.group(1) == "trait", without_parameters(" ".join([opens.group(2), *(it.strip() for it in inner[1 : header + 1])]))
+    of, _, subject = of.partition(" for ") if not is_trait and " for " in of else ("", "", of)
+    subject = re.match(r"&?(?:'\w+ )?(?:mut )?(\w+)", subject)
+    return subject.group(1) if subject else None, is_trait, bool(of)
+
+
+def comment(lines, at):
+    """The lines of the comment right above a line of code."""
+    to = at
+    while to > 0 and lines[to - 1].strip().startswith("//"):
+        to -= 1
+    return lines[to:at]

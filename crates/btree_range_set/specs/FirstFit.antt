@@ -10,11 +10,11 @@ module _ (has : ℕ → Bool) (start end size : ℕ) where
     pub to : at + size ≤ end
     pub free : (n : ℕ) → is_within (at, at + size) n ≡ true → has n ≡ false
 
-  -- this is the least number with that
+  -- `at` is the least number from which `size` numbers in a row are free, from `start` up to `end`
   pub record IsFirstFit (at : ℕ) : Type 0 where
     pub run : IsFreeRun at
     pub least : (other : ℕ) → IsFreeRun other → at ≤ other
 
-  -- there is no such number
+  -- from no number are so many free in a row
   abbrev pub FitsNowhere : Type 0
   FitsNowhere = (at : ℕ) → IsFreeRun at → ⊥

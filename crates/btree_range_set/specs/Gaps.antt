@@ -9,7 +9,7 @@ pub record AreGapsOf (has : ℕ → Bool) (start end : ℕ) (gaps : List (ℕ ×
   pub runs : AreRuns gaps
   pub missing : (n : ℕ) → has_number gaps n ≡ (is_within (start, end) n && not (has n))
 
--- of those that are in none of the ranges
+-- the gaps of ranges: those of the numbers that are in none of them
 abbrev pub AreGaps : (ranges : List (ℕ × ℕ)) → (start end : ℕ) → (gaps : List (ℕ × ℕ)) → Type 0
 AreGaps ranges start end gaps = AreGapsOf (has_number ranges) start end gaps
 

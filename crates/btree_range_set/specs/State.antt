@@ -23,7 +23,7 @@ range_code =
     (λ p. record { ranges = p.0; kept = p.1 })
     (λ _. refl)
 
--- that of a map from the start of each range to its end
+-- the set of ranges that a map from the start of each range to its end stands for
 abbrev pub ranges_of : TreeState ℕ ℕ → RangeState
 ranges_of map = record { ranges = pairs_of map; kept = map.kept }
 
