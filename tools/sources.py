@@ -207,7 +207,7 @@ def signature(lines, at):
     """The signature and the clauses of the function that begins at a line."""
     indent, found, clauses = len(lines[at]) - len(lines[at].lstrip()), [], False
     for line in lines[at:]:
-        if line == " " * indent + "{":
+        if line.strip() in ("{", "{}") and len(line) - len(line.lstrip()) == indent:
             break
         found.append(line)
         clauses = clauses or bool(re.match(r" *(requires|ensures)\b", line))
