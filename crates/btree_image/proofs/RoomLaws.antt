@@ -59,7 +59,7 @@ module _ {K V : Type 0} (read_key : Read K) (read_value : Read V) where
       let found : places.first.0 ≡ i.places = ap (λ (z : Image (K × V)). z.places) (body ∙ ok_is read.first.0 i end.after) in
       let lack = lacking.place in
       first-places lacking.head.count (suc lack.id) lacking.rest places.first.1 lack.rest places.first.0 lack.places all lack.read lack.id (omega arith) (omega (arith, lack.within))
-          ∙ ap (λ (l : List (Option (View (K × V)))). slice_index_or l lack.id None) found
+      ∙ ap (λ (l : List (Option (View (K × V)))). slice_index_or l lack.id None) found
 
   -- a store that may have no room for bytes of a tree may have none for a node of it
   pub lacks-node : (MayLack : ℕ → Type 0) (s : TreeState K V) (bytes : List ℕ) → LacksRoom read_key read_value MayLack bytes → IsSavedAs read_key read_value s bytes → LacksNode MayLack s

@@ -35,11 +35,11 @@ module _ {X : Type 0} (parse : Parse X) where
   -- one value more
   many-last : (n : ℕ) (start rest after : List ℕ) (front : List X) (x : X) → many (λ left. parse) n start ≡ Ok (front, rest) → parse rest ≡ Ok (x, after)
       → many (λ left. parse) (suc n) start ≡ Ok (front ++ x ∷ [], after)
+  unfolding many
   many-last zero start rest after front x all is =
       let same : ([], start) ≡ (front, rest) = ok_is _ _ (sym (many-none start) ∙ all) in
       let here : parse start ≡ Ok (x, after) = ap (λ (z : List X × List ℕ). parse z.1) same ∙ is in
       many-first 0 start after x here ∙ ap (before x) (many-none after) ∙ ap (λ (z : List X × List ℕ). Ok (z.0 ++ x ∷ [], after)) same
-  unfolding many
   many-last (suc n) start rest after front x all is =
       let p = parts (parse start) (λ f. many (λ left. parse) n f.1 >>= λ o. Ok (f.0 ∷ o.0, o.1)) (front, rest) all in
       let q = parts (many (λ left. parse) n p.first.1) (λ o. Ok (p.first.0 ∷ o.0, o.1)) (front, rest) p.after in

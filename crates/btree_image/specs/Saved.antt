@@ -62,6 +62,6 @@ module _ {K V : Type 0} (read_key : Read K) (read_value : Read V) (MayLack : ℕ
     pub place : LacksPlace head.count rest
 
 -- why bytes are not read: the store refused a node, and then this holds; or their first fault
-abbrev pub IsErrorOf : {X : Type 0} → (lacks : Type 0) → ReadError → Result X Stop → Type 0
-IsErrorOf lacks errors.Store read = lacks
-IsErrorOf lacks (errors.Image e) read = read ≡ Err e
+abbrev pub IsErrorOf : {X : Type 0} → (lacks : Type 0) → Result X Stop → ReadError → Type 0
+IsErrorOf lacks read errors.Store = lacks
+IsErrorOf lacks read (errors.Image e) = read ≡ Err e

@@ -57,8 +57,8 @@ fn read_places<K: Spelled, V: Spelled, C: Fill<Node<K, V>> + Drop>(
         (places_at K.read V.read count bytes.now)) }
     ensures refusals { IfOk result (λ x. C.refusals x.0 ≡ C.refusals nodes) }
     ensures refused { IfErr result
-        (λ e. IsErrorOf (LacksPlace K.read V.read C.MayLack count bytes.now) e
-            (places_at K.read V.read count bytes.now)) }
+        (IsErrorOf (LacksPlace K.read V.read C.MayLack count bytes.now)
+        (places_at K.read V.read count bytes.now)) }
 {
     let mut nodes = nodes;
     let mut rest = bytes;
@@ -85,8 +85,7 @@ pub fn read_tree<K: Spelled, V: Spelled, C: Fill<Node<K, V>> + Drop>(
     ensures saved { IfOk result (λ tree. IsSavedAs K.read V.read tree bytes.now) }
     ensures refusals { IfOk result (λ tree. tree.kept.refusals ≡ C.refusals nodes) }
     ensures refused { IfErr result
-        (λ e. IsErrorOf (LacksRoom K.read V.read C.MayLack bytes.now) e
-            (image_at K.read V.read bytes.now)) }
+        (IsErrorOf (LacksRoom K.read V.read C.MayLack bytes.now) (image_at K.read V.read bytes.now)) }
 {
     let (head, rest) = read_head(bytes)?;
     let (nodes, rest) = read_places(nodes, head.count, rest)?;

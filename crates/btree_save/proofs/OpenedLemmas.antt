@@ -22,11 +22,11 @@ module _ {K V : Type 0} (read_key : Read K) (read_value : Read V) (cmp : K → K
   abbrev lacks : Type 0
   lacks = LacksRoom read_key read_value MayLack bytes
 
-  pub read-refused : (error : ReadError) → IsErrorOf lacks error (image_at read_key read_value bytes) → IsRefusedBy read_key read_value cmp MayLack bytes (error_of (length bytes) error)
+  pub read-refused : (error : ReadError) → IsErrorOf lacks (image_at read_key read_value bytes) error → IsRefusedBy read_key read_value cmp MayLack bytes (error_of (length bytes) error)
   read-refused reads.Store is = is
   read-refused (reads.Image stop) is = record { left = stop.left; first = is; place = refl }
 
-  pub read-opens : (error : ReadError) → IsErrorOf lacks error (image_at read_key read_value bytes) → (s : TreeState K V) → IsSavedAs read_key read_value s bytes → IsBTreeWithinLimit s cmp
+  pub read-opens : (error : ReadError) → IsErrorOf lacks (image_at read_key read_value bytes) error → (s : TreeState K V) → IsSavedAs read_key read_value s bytes → IsBTreeWithinLimit s cmp
       → (error_of (length bytes) error ≡ errors.Store) × LacksNode MayLack s
   read-opens reads.Store is s saved within = (refl, lacks-node read_key read_value MayLack s bytes is saved)
   read-opens (reads.Image stop) is s saved within = let both : Ok saved.image ≡ Err stop = sym saved.read ∙ is in absurd cc

@@ -9,7 +9,7 @@ use Rattle.btree_image.proofs.places.read_tree.Goals as goal
 
 -- an error of a part is one of the whole, if the fault is
 error-of : {X Y Lacks LacksAll : Type 0} (e : ReadError) (part : Result X Stop) (whole : Result Y Stop) → (Lacks → LacksAll) → ((stop : Stop) → part ≡ Err stop → whole ≡ Err stop)
-    → IsErrorOf Lacks e part → IsErrorOf LacksAll e whole
+    → IsErrorOf Lacks part e → IsErrorOf LacksAll whole e
 error-of errors.Store part whole lacks same is = lacks is
 error-of (errors.Image stop) part whole lacks same is = same stop is
 
