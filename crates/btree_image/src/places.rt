@@ -85,7 +85,8 @@ pub fn read_tree<K: Spelled, V: Spelled, C: Fill<Node<K, V>> + Drop>(
     ensures saved { IfOk result (λ tree. IsSavedAs K.read V.read tree bytes.now) }
     ensures refusals { IfOk result (λ tree. tree.kept.refusals ≡ C.refusals nodes) }
     ensures refused { IfErr result
-        (IsErrorOf (LacksRoom K.read V.read C.MayLack bytes.now) (image_at K.read V.read bytes.now)) }
+        (IsErrorOf (LacksRoom K.read V.read C.MayLack bytes.now)
+        (image_at K.read V.read bytes.now)) }
 {
     let (head, rest) = read_head(bytes)?;
     let (nodes, rest) = read_places(nodes, head.count, rest)?;

@@ -4,7 +4,7 @@ use Rattle.btree_image.specs.declared.fault.Stop.{Stop}
 use Rattle.btree_image.specs.declared.fault.ReadError.{ReadError}
 use Rattle.btree_image.specs.declared.fault.ReadError.TheVariants as errors
 use Rattle.btree_image.specs.Reading.{body_at, image_at, image_of}
-use Rattle.btree_image.specs.Saved.{IsErrorOf, LacksPlace}
+use Rattle.btree_image.specs.Saved.{IsErrorOf, LacksPlace, LacksRoom}
 use Rattle.btree_image.proofs.places.read_tree.Goals as goal
 
 -- an error of a part is one of the whole, if the fault is
@@ -23,7 +23,8 @@ pub returns-in_err-nodes-clause-refused : goal.returns-in_err-nodes-clause-refus
 unfolding image_at body_at
 returns-in_err-nodes-clause-refused g c =
     let p = err_from_is_err_and c.from_residual-in_err-nodes.result c.from_residual-in_err-nodes.ensures.1 in
-    let lacking = λ (part : LacksPlace g.K.Spelled.read g.V.Spelled.read g.C.Fill.MayLack c.in_ok-head.head.count c.in_ok-head.rest.now). record { head = c.in_ok-head.head; rest = c.in_ok-head.rest.now; read = c.in_ok-head.ensures; place = part } in
+    let lacking : LacksPlace g.K.Spelled.read g.V.Spelled.read g.C.Fill.MayLack c.in_ok-head.head.count c.in_ok-head.rest.now → LacksRoom g.K.Spelled.read g.V.Spelled.read g.C.Fill.MayLack c.args.bytes.now =
+    λ place. record { head = c.in_ok-head.head; rest = c.in_ok-head.rest.now; read = c.in_ok-head.ensures; place = place } in
     rw (p.1, p.2) (error-of c.in_err-nodes.field-0.0 _ _ lacking (λ stop is. rw (c.in_ok-head.ensures, is) refl) c.in_err-nodes.ensures.refused)
 
 pub returns-in_err-read_end-clause-refused : goal.returns-in_err-read_end-clause-refused
