@@ -1,5 +1,5 @@
 -- A store that may have no room for bytes of a tree may have none for one of its nodes.
-use Rattle.std.proofs.Common.{◌≡◌, ℕ, zero, suc, ◌<◌, ◌≤◌, false, eqb, List, [], ◌∷◌, get_or, Option, Some, None, IsSome, Ok, refl, sym, ap, ◌∙◌, arith}
+use Rattle.std.proofs.Common.{◌≡◌, ℕ, zero, suc, ◌<◌, ◌≤◌, false, eqb, List, ◌∷◌, get_or, Option, None, IsSome, Ok, sym, ap, ◌∙◌, arith}
 use Rattle.std.specs.Prelude.{slice_index_or}
 use Rattle.std.specs.FinMap as map
 use Rattle.btree_node.specs.Node.{view_of}
@@ -8,7 +8,7 @@ use Rattle.btree_view.specs.View.{View}
 use Rattle.btree_image.specs.declared.head.Head.{Head}
 use Rattle.btree_image.specs.Image.{Image}
 use Rattle.btree_image.specs.Reading.{◌>>=◌, body_at, end_at, head_at, image_at, image_of, many, place_at, places_at}
-use Rattle.btree_image.specs.Saved.{IsSavedAs, LacksNode, LacksPlace, LacksRoom}
+use Rattle.btree_image.specs.Saved.{IsSavedAs, LacksNode, LacksRoom}
 use Rattle.btree_image.specs.Spelled.{Parse, Read}
 use Rattle.btree_image.proofs.PlaceLemmas.{used-of}
 use Rattle.btree_image.proofs.RoomLemmas.{place-early}
