@@ -1,4 +1,4 @@
-use Rattle.btree_range_map.proofs.Common.{◌<◌, ℕ, List, subst, arith}
+use Rattle.btree_range_map.proofs.Common.{ℕ, List, subst, arith}
 use Rattle.btree_range_set.specs.FitLaws.{AreLeft, all-left, fit-found, none-left, rest-left}
 use Rattle.btree_range_map.specs.Ranges.{has_value}
 use Rattle.btree_range_map.proofs.map.RangeMap.first_fit.Goals as goal
