@@ -15,7 +15,7 @@ use Rattle.btree_image.proofs.RoomLaws.{lacks-node}
 use Rattle.btree_save.specs.declared.error.OpenError.{OpenError}
 use Rattle.btree_save.specs.declared.error.OpenError.TheVariants as errors
 use Rattle.btree_save.specs.Errors.{error_of}
-use Rattle.btree_save.specs.Opened.{IsErrorFrom, IsOpenedFrom, IsRefusedBy}
+use Rattle.btree_save.specs.Opened.{IsErrorFrom, IsNoFaultOf, IsOpenedFrom, IsRefusedBy, Opens, OpensFrom}
 
 module _ {K V : Type 0} (read_key : Read K) (read_value : Read V) (cmp : K → K → Ordering) (MayLack : ℕ → Type 0) (bytes : List ℕ) where
   abbrev lacks : Type 0
@@ -51,6 +51,13 @@ module _ {K V : Type 0} (read_key : Read K) (read_value : Read V) (cmp : K → K
   pub refused-from : {T : Type 0} (remaining : Option (List ℕ)) → IfSome remaining (λ left. bytes ≡ left) → (r : Result T OpenError) → IfErr r (IsRefusedBy read_key read_value cmp MayLack bytes) → IfErr r (IsErrorFrom read_key read_value cmp MayLack remaining)
   refused-from remaining all (Ok s) refused = tt
   refused-from remaining all (Err e) refused = error-from remaining all e refused
+
+  pub opens-from : {T : Type 0} (remaining : Option (List ℕ)) → IfSome remaining (λ left. bytes ≡ left) → (r : Result T OpenError) → Opens read_key read_value cmp MayLack bytes r → OpensFrom read_key read_value cmp MayLack remaining r
+  opens-from remaining all (Ok x) opens s left is saved within = tt
+  opens-from remaining all (Err e) opens s left is saved within =
+      let same : bytes ≡ left = subst (λ (o : Option (List ℕ)). IfSome o (λ xs. bytes ≡ xs)) is all in
+      let told = opens s (subst (IsSavedAs read_key read_value s) (sym same) saved) within in
+      subst (IsNoFaultOf read_key read_value cmp MayLack s) (sym told.0) told.1
 
 -- a reader that came to its end gave all that it had left
 pub all-read : (remaining : Option (List ℕ)) (start end bytes : List ℕ) → start ≡ [] → bytes ≡ end → IfSome remaining (λ xs. end ≡ start ++ xs) → IfSome remaining (λ left. bytes ≡ left)

@@ -1,5 +1,5 @@
 -- What `open` promises, beside `IsSavedAs` of `btree_image`: the bytes say that this is the tree.
-use Rattle.std.specs.Prelude.{◌≡◌, ◌-◌, ℕ, IfErr, IfSome, List, length, Option, Result, Err}
+use Rattle.std.specs.Prelude.{◌≡◌, ◌-◌, ℕ, IfErr, IfSome, List, length, Option, Some, Result, Err}
 use Rattle.std.specs.Io.KnownBytes.{Appends}
 use Rattle.std.specs.declared.cmp.Ordering.{Ordering}
 use Rattle.btree_laws.specs.TreeState.{TreeState}
@@ -45,6 +45,19 @@ module _ {K V : Type 0} (read_key : Read K) (read_value : Read V) where
     -- node of it
     abbrev pub Opens : {T : Type 0} → List ℕ → Result T OpenError → Type 0
     Opens bytes result = (s : TreeState K V) → IsSavedAs read_key read_value s bytes → IsBTreeWithinLimit s cmp → IfErr result (λ e. (e ≡ errors.Store) × LacksNode MayLack s)
+
+    -- the reader failed, or the store may have no room for the number of a node of the tree
+    abbrev pub IsNoFaultOf : TreeState K V → OpenError → Type 0
+    IsNoFaultOf s (errors.Read e) = Unit {0}
+    IsNoFaultOf s errors.Store = LacksNode MayLack s
+    IsNoFaultOf s (errors.Image fault at) = ⊥
+    IsNoFaultOf s (errors.Tree fault) = ⊥
+
+    -- if a reader has the bytes of a well formed tree within its limit left, and nothing else, they are opened, unless it fails, or the
+    -- store may have no room for the number of a node of it
+    abbrev pub OpensFrom : {T : Type 0} → Option (List ℕ) → Result T OpenError → Type 0
+    OpensFrom remaining result = (s : TreeState K V) (bytes : List ℕ) → remaining ≡ Some bytes → IsSavedAs read_key read_value s bytes → IsBTreeWithinLimit s cmp
+        → IfErr result (IsNoFaultOf s)
 
   -- the bytes that the reader had left, if they are known, are those of the tree
   pub record IsOpenedFrom (remaining : Option (List ℕ)) (s : TreeState K V) : Type 0 where

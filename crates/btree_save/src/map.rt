@@ -6,7 +6,7 @@ ghost use Rattle.btree_node.specs.contracts.node.Node.{the_row as node_row};
 ghost use Rattle.btree_laws.specs.TreeState.{TreeState};
 ghost use Rattle.btree_raw.specs.Limit.{IsBTreeWithinLimit};
 ghost use Rattle.btree_image.specs.Saved.{AreOnlyBytesOf, IsSavedAs};
-ghost use Rattle.btree_save.specs.Opened.{IsErrorFrom, IsOpenedFrom, IsRefusedBy, IsWrittenTo, Opens};
+ghost use Rattle.btree_save.specs.Opened.{IsErrorFrom, IsOpenedFrom, IsRefusedBy, IsWrittenTo, Opens, OpensFrom};
 
 use crate::error::{OpenError, SaveError, of_read};
 use btree_ext::BTreeExt;
@@ -106,6 +106,7 @@ pub fn open<K: Spelled + Ord, V: Spelled, C: Fill<Node<K, V>> + Drop, A: Allocat
     ensures saved { IfOk result (IsOpenedFrom K.read V.read (R.remaining input.old)) }
     ensures refused { IfErr result
         (IsErrorFrom K.read V.read K.cmp C.MayLack (R.remaining input.old)) }
+    ensures opens { OpensFrom K.read V.read K.cmp C.MayLack (R.remaining input.old) result }
 {
     C::note_fits();
     let nodes = C::unused(origin);

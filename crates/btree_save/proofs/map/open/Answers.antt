@@ -1,4 +1,4 @@
-use Rattle.btree_save.proofs.OpenedLemmas.{all-read, opened-from, refused-from}
+use Rattle.btree_save.proofs.OpenedLemmas.{all-read, opened-from, opens-from, refused-from}
 use Rattle.btree_save.proofs.map.open.Goals as goal
 
 pub note_fits-requires : goal.note_fits-requires
@@ -22,3 +22,8 @@ pub returns-in-Ok-clause-refused : goal.returns-in-Ok-clause-refused
 returns-in-Ok-clause-refused g c =
     refused-from g.K.Spelled.read g.V.Spelled.read g.K.Ord.cmp g.C.Fill.MayLack c.deref.result.now (g.R.Read.remaining c.args.input.now)
     (all-read (g.R.Read.remaining c.args.input.now) c.new-bytes.result.items c.read_to_end.new.buf.items c.deref.result.now c.new-bytes.ensures.items c.deref.ensures.value c.in-Ok.ensures.bytes) c.map_in_store.result c.map_in_store.ensures.refused
+
+pub returns-in-Ok-clause-opens : goal.returns-in-Ok-clause-opens
+returns-in-Ok-clause-opens g c =
+    opens-from g.K.Spelled.read g.V.Spelled.read g.K.Ord.cmp g.C.Fill.MayLack c.deref.result.now (g.R.Read.remaining c.args.input.now)
+    (all-read (g.R.Read.remaining c.args.input.now) c.new-bytes.result.items c.read_to_end.new.buf.items c.deref.result.now c.new-bytes.ensures.items c.deref.ensures.value c.in-Ok.ensures.bytes) c.map_in_store.result c.map_in_store.ensures.opens
