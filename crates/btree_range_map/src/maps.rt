@@ -1,9 +1,9 @@
 //! Maps of ranges and the ordered maps behind them.
-ghost use Rattle.std.specs.Prelude.{◌≡◌, ◌↔◌, IfErr, IfOk, IsOk, IsTrue};
+ghost use Rattle.std.specs.Prelude.{◌≡◌, ◌↔◌, IsFalse, IsTrue};
 ghost use Rattle.std.specs.Option.{option_copied};
 ghost use Rattle.btree_laws.specs.TreeState.{pairs_of};
 ghost use Rattle.btree_range_map.specs.Places.{MayFollow};
-ghost use Rattle.btree_range_map.specs.Ranges.{AreRuns, ClonesEqual, TellsSame};
+ghost use Rattle.btree_range_map.specs.Ranges.{AreRuns, TellsSame};
 ghost use Rattle.btree_range_map.specs.State.{ranges_of};
 
 use crate::iter::over;
@@ -11,6 +11,7 @@ use crate::{Iter, RangeMap, Span};
 use btree_map::BTreeMap;
 use btree_node::NodesMut;
 use std::iter::Iterator;
+use std::mem;
 
 // Returns whether a range may follow one with the span `past`, if there is one.
 fn may_follow<V: Clone + Eq>(past: Option<&Span<V>>, start: u64, span: &Span<V>) -> bool
@@ -50,29 +51,20 @@ impl<V: Clone + Eq, C: NodesMut<u64, Span<V>>> RangeMap<V, C> {
         &self.map
     }
 
-    /// Returns the map from the start of each range to its end and value.
-    pub fn into_map(self) -> BTreeMap<u64, Span<V>, C>
-        ensures { ranges_of result ≡ self }
+    /// Exchanges that map with `map`, if the pairs of `map` are ranges as a map of ranges has them, and returns whether they are: none is
+    /// empty, and where one meets the next it ends there and has another value. It reads each node of `map` once.
+    pub fn swap_map(&mut self, map: &mut BTreeMap<u64, Span<V>, C>) -> bool
+        ensures exact { IsTrue result ↔ AreRuns (pairs_of map.old) }
+        ensures taken { IsTrue result → (self.new ≡ ranges_of map.old) }
+        ensures given { IsTrue result → (ranges_of map.new ≡ self.old) }
+        ensures unchanged { IsFalse result → (self.new ≡ self.old) × (map.new ≡ map.old) }
     {
-        let RangeMap { map } = self;
-        map
-    }
-
-    /// Returns the map whose ranges are the pairs of an ordered map, or that map as it was, if a range is empty or meets the next, or touches
-    /// it and has the same value. It reads each node once.
-    ///
-    /// The contract requires of values what that of `new` does.
-    pub fn from_map(map: BTreeMap<u64, Span<V>, C>) -> Result<Self, BTreeMap<u64, Span<V>, C>>
-        requires same { TellsSame V.eq }
-        requires clones { ClonesEqual V.is_clone }
-        ensures exact { IsOk result ↔ AreRuns (pairs_of map) }
-        ensures kept { IfOk result (λ ranges. ranges ≡ ranges_of map) }
-        ensures returned { IfErr result (λ back. back ≡ map) }
-    {
-        if are_runs(over(&map)) {
-            Ok(RangeMap { map })
+        let own = &mut self.map;
+        if are_runs(over(map)) {
+            mem::swap(own, map);
+            true
         } else {
-            Err(map)
+            false
         }
     }
 }

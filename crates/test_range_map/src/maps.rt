@@ -1,66 +1,90 @@
-//! Maps of ranges made from ordered maps.
+//! Maps of ranges and the ordered maps behind them.
 use crate::asserts::{assert_same, assert_true};
-use crate::checks::{Heap, Ranges, check_ranges};
-use btree_ext::{BTreeExt, BTreeExtMut};
+use crate::checks::{Heap, Ranges, check_ranges, fill};
+use btree_ext::BTreeExt;
 use btree_map::BTreeMap;
-use btree_node::NodesMut;
+use btree_node::{ClearNodes, NodesMut};
 use btree_range_map::{RangeMap, Span};
 use std::process::Abort;
 
-// Returns a map of these ranges.
-fn map_of<C: NodesMut<u64, Span<u64>> + Drop>(
+const TWO: Ranges = &[(1, 4, 7), (4, 6, 8)];
+
+// Puts these ranges into a map as its pairs.
+fn put<C: NodesMut<u64, Span<u64>> + Drop>(
     rt: &impl Abort,
-    origin: C::Origin,
+    map: &mut BTreeMap<u64, Span<u64>, C>,
     ranges: Ranges,
-) -> BTreeMap<u64, Span<u64>, C> {
-    let mut map: BTreeMap<u64, Span<u64>, C> = BTreeMap::new(origin);
+) {
     for (start, end, value) in ranges.iter().copied() {
         assert_true(rt, map.insert(start, Span { end, value }).is_ok());
     }
-    map
 }
 
-// Checks that the map of these ranges has them, and that the map behind it has them still.
-fn check_taken<C: NodesMut<u64, Span<u64>> + Drop>(
+// Checks that a map has these ranges as its pairs.
+fn check_pairs<C: NodesMut<u64, Span<u64>>>(
     rt: &impl Abort,
-    origin: C::Origin,
+    map: &BTreeMap<u64, Span<u64>, C>,
     ranges: Ranges,
 ) {
-    match RangeMap::from_map(map_of::<C>(rt, origin, ranges)) {
-        Ok(map) => {
-            check_ranges(rt, &map, ranges);
-            assert_same(rt, map.as_map().len(), ranges.len());
-            assert_same(rt, map.into_map().len(), ranges.len());
-        }
-        Err(_map) => panic!(rt; "no map of ranges"),
+    for (start, end, value) in ranges.iter().copied() {
+        assert_same(rt, map.get(&start).copied(), Some(Span { end, value }));
     }
+    assert_same(rt, map.len(), ranges.len());
 }
 
-// Checks that no map has these ranges, which come back.
-fn check_returned<C: NodesMut<u64, Span<u64>> + Drop>(
+// Checks that a map of two ranges takes these, and gives the two.
+fn check_taken<C: ClearNodes<u64, Span<u64>> + Drop>(
     rt: &impl Abort,
-    origin: C::Origin,
+    origins: [C::Origin; 2],
     ranges: Ranges,
 ) {
-    match RangeMap::from_map(map_of::<C>(rt, origin, ranges)) {
-        Ok(_map) => panic!(rt; "a map of ranges"),
-        Err(map) => {
-            for (start, end, value) in ranges.iter().copied() {
-                assert_same(rt, map.get(&start).copied(), Some(Span { end, value }));
-            }
-            assert_same(rt, map.len(), ranges.len());
-        }
-    }
+    let [own, other] = origins;
+    let mut two: RangeMap<u64, C> = RangeMap::new(own);
+    let mut map: BTreeMap<u64, Span<u64>, C> = BTreeMap::new(other);
+    fill(rt, &mut two, TWO);
+    put(rt, &mut map, ranges);
+    assert_true(rt, two.swap_map(&mut map));
+    check_ranges(rt, &two, ranges);
+    check_pairs(rt, two.as_map(), ranges);
+    check_pairs(rt, &map, TWO);
+}
+
+// Checks that it takes none of these, and keeps its own.
+fn check_left<C: ClearNodes<u64, Span<u64>> + Drop>(
+    rt: &impl Abort,
+    origins: [C::Origin; 2],
+    ranges: Ranges,
+) {
+    let [own, other] = origins;
+    let mut two: RangeMap<u64, C> = RangeMap::new(own);
+    let mut map: BTreeMap<u64, Span<u64>, C> = BTreeMap::new(other);
+    fill(rt, &mut two, TWO);
+    put(rt, &mut map, ranges);
+    assert_true(rt, !two.swap_map(&mut map));
+    check_ranges(rt, &two, TWO);
+    check_pairs(rt, &map, ranges);
 }
 
 #[test]
-fn makes_maps_of_maps(rt: HostRuntime) {
-    check_taken::<Heap>(&rt, rt.alloc(), &[]);
-    check_taken::<Heap>(&rt, rt.alloc(), &[(0, u64::MAX, 7)]);
-    check_taken::<Heap>(&rt, rt.alloc(), &[(0, 1, 7), (1, 5, 8), (7, 8, 8)]);
-    check_returned::<Heap>(&rt, rt.alloc(), &[(3, 3, 7)]);
-    check_returned::<Heap>(&rt, rt.alloc(), &[(4, 2, 7)]);
-    check_returned::<Heap>(&rt, rt.alloc(), &[(0, 1, 7), (2, 5, 8), (5, 8, 8)]);
-    check_returned::<Heap>(&rt, rt.alloc(), &[(0, 3, 7), (2, 5, 8)]);
-    check_returned::<Heap>(&rt, rt.alloc(), &[(0, 1, 7), (7, 7, 8)]);
+fn takes_maps_of_ranges(rt: HostRuntime) {
+    check_taken::<Heap>(&rt, [rt.alloc(), rt.alloc()], &[]);
+    check_taken::<Heap>(&rt, [rt.alloc(), rt.alloc()], &[(0, u64::MAX, 7)]);
+    check_taken::<Heap>(
+        &rt,
+        [rt.alloc(), rt.alloc()],
+        &[(0, 1, 7), (1, 5, 8), (7, 8, 8)],
+    );
+}
+
+#[test]
+fn takes_no_other_maps(rt: HostRuntime) {
+    check_left::<Heap>(&rt, [rt.alloc(), rt.alloc()], &[(3, 3, 7)]);
+    check_left::<Heap>(&rt, [rt.alloc(), rt.alloc()], &[(4, 2, 7)]);
+    check_left::<Heap>(
+        &rt,
+        [rt.alloc(), rt.alloc()],
+        &[(0, 1, 7), (2, 5, 8), (5, 8, 8)],
+    );
+    check_left::<Heap>(&rt, [rt.alloc(), rt.alloc()], &[(0, 3, 7), (2, 5, 8)]);
+    check_left::<Heap>(&rt, [rt.alloc(), rt.alloc()], &[(0, 1, 7), (7, 7, 8)]);
 }
