@@ -1,9 +1,8 @@
 -- A step of a cursor: the address after or before that of an item, and the value written at it.
-use Rattle.btree_map.proofs.Common.{◌≡◌, ◌∙◌, ℕ, zero, suc, ◌+◌, ◌-◌, ◌<◌, ◌≤◌, List, [], ◌∷◌, Option, Some, None, length, sym, ap, set, slice_get, subst, arith, same_Some, IsTotalOrder, Ordering, Address, item_addresses_of, TreeState, IsBTree, IsValidIn, item_of, pairs_of, prior, addresses-tree, IsNext, occupied-item, value_written, WritesPlace, or_nowhere, written-addresses}
-use Rattle.btree_laws.specs.TreeState.{IsOccupiedIn, IsPlaceIn}
+use Rattle.btree_map.proofs.Common.{◌≡◌, ◌∙◌, ℕ, zero, suc, ◌+◌, ◌-◌, ◌<◌, ◌≤◌, List, [], ◌∷◌, Option, Some, None, length, sym, ap, set, slice_get, subst, arith, same_Some, Ordering, Address, item_addresses_of, TreeState, item_of, pairs_of, prior, IsNext, value_written, WritesPlace, or_nowhere, written-addresses}
 use Rattle.btree_find.specs.Navigation.{IsItemBefore, IsPrevious}
 use Rattle.btree_ext.specs.Exchange.{IsValueExchanged}
-use Rattle.btree_map.proofs.EntryLemmas.{item-valid}
+use Rattle.btree_map.proofs.ListedItems.{listed-item, listed-occupied, listed-place}
 
 pub get_none : {X : Type 0} (list : List X) (n : ℕ) → slice_get list n ≡ None → length list ≤ n
 get_none [] n none = omega arith
@@ -14,47 +13,34 @@ pub before-listed : {K V : Type 0} (s : TreeState K V) (n : ℕ) (found : Option
 before-listed s zero found is = is
 before-listed s (suc n) found is = is.listed
 
-module _ {K V : Type 0} (cmp : K → K → Ordering) (laws : IsTotalOrder cmp) (s : TreeState K V) (tree : IsBTree cmp s) (a : Address) (place : ℕ)
-    (listed : slice_get (item_addresses_of s) place ≡ Some a) where
-  right : IsOccupiedIn s a × IsPlaceIn s a place × (item_of s a ≡ slice_get (pairs_of s) place)
-  right = (addresses-tree cmp laws s tree).items.right place a listed
-
-  pub listed-occupied : IsOccupiedIn s a
-  listed-occupied = right.0
-
-  pub listed-valid : IsValidIn s a
-  listed-valid = item-valid s a (occupied-item s a right.0)
-
-  pub listed-item : item_of s a ≡ slice_get (pairs_of s) place
-  listed-item = right.2
-
+module _ {K V : Type 0} (s : TreeState K V) (a : Address) (place : ℕ) (listed : slice_get (item_addresses_of s) place ≡ Some a) where
   pub listed-after : (found : Option Address) → IsNext s a found → found ≡ slice_get (item_addresses_of s) (place + 1)
   listed-after found n =
-      let same = n.has.only place right.1 in
+      let same = n.has.only place (listed-place s a place listed) in
       let one : suc n.place ≡ place + 1 = omega arith in
-      (n.after right.0).listed ∙ ap (slice_get (item_addresses_of s)) one
+      (n.after (listed-occupied s a place listed)).listed ∙ ap (slice_get (item_addresses_of s)) one
 
   pub listed-before : (found : Option Address) → IsPrevious s a found → found ≡ prior (item_addresses_of s) place
   listed-before found p =
-      let same : place ≡ p.place = p.has.only place right.1 in
+      let same : place ≡ p.place = p.has.only place (listed-place s a place listed) in
       before-listed s p.place found p.item ∙ ap (prior (item_addresses_of s)) (sym same)
 
-  pub listed-written : (k : K) (was w : V) → item_of s a ≡ Some (k, was) → IsValueExchanged s (value_written s a w) a cmp was w
+  pub listed-written : {cmp : K → K → Ordering} (k : K) (was w : V) → item_of s a ≡ Some (k, was) → IsValueExchanged s (value_written s a w) a cmp was w
       → WritesPlace cmp s (value_written s a w) a place k was w
   listed-written k was w here x =
-      let at : x.exchanged.place ≡ place = sym (x.exchanged.here.has.only place right.1) in
+      let at : x.exchanged.place ≡ place = sym (x.exchanged.here.has.only place (listed-place s a place listed)) in
       let key : x.key ≡ k = ap (λ (p : K × V). p.0) (same_Some (x.key, was) (k, was) (sym x.had ∙ here)) in
       record {
         listed = listed;
-        item = sym right.2 ∙ here;
+        item = sym (listed-item s a place listed) ∙ here;
         pairs = x.exchanged.pairs ∙ (λ i. set (pairs_of s) (at i) (key i, w));
         addresses = written-addresses s a w;
         exchanged = x;
       }
 
 -- the same for the address of a cursor, which is one of these
-module _ {K V : Type 0} (cmp : K → K → Ordering) (laws : IsTotalOrder cmp) (s : TreeState K V) (tree : IsBTree cmp s) (found : Option Address) (a : Address)
-    (is : found ≡ Some a) (place : ℕ) (stands : found ≡ slice_get (item_addresses_of s) place) where
+module _ {K V : Type 0} (s : TreeState K V) (found : Option Address) (a : Address) (is : found ≡ Some a) (place : ℕ)
+    (stands : found ≡ slice_get (item_addresses_of s) place) where
   pub stands-listed : slice_get (item_addresses_of s) place ≡ Some a
   stands-listed = sym stands ∙ is
 
@@ -62,13 +48,13 @@ module _ {K V : Type 0} (cmp : K → K → Ordering) (laws : IsTotalOrder cmp) (
   stands-state w = ap (λ o. value_written s (or_nowhere o) w) (sym is)
 
   pub stands-pair : (x : K × V) → item_of s a ≡ Some x → slice_get (pairs_of s) place ≡ Some x
-  stands-pair x here = sym (listed-item cmp laws s tree a place stands-listed) ∙ here
+  stands-pair x here = sym (listed-item s a place stands-listed) ∙ here
 
-  pub stands-written : (k : K) (was w : V) → item_of s a ≡ Some (k, was) → IsValueExchanged s (value_written s a w) a cmp was w
+  pub stands-written : {cmp : K → K → Ordering} (k : K) (was w : V) → item_of s a ≡ Some (k, was) → IsValueExchanged s (value_written s a w) a cmp was w
       → WritesPlace cmp s (value_written s (or_nowhere found) w) (or_nowhere found) place k was w
-  stands-written k was w here x =
+  stands-written {cmp} k was w here x =
       subst (λ o. WritesPlace cmp s (value_written s (or_nowhere o) w) (or_nowhere o) place k was w) (sym is)
-      (listed-written cmp laws s tree a place stands-listed k was w here x)
+      (listed-written s a place stands-listed k was w here x)
 
   pub stands-next : (after : Option Address)
       → (slice_get (item_addresses_of s) place ≡ Some a → after ≡ slice_get (item_addresses_of s) (place + 1))

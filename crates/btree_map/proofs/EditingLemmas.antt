@@ -1,19 +1,21 @@
 -- The place of an editing cursor: the item there, an address for an insertion there, and the address of the next item
 -- after each edit.
-use Rattle.btree_map.proofs.Common.{◌≡◌, ◌∙◌, ℕ, suc, ◌+◌, ◌<◌, ◌≤◌, Bool, true, false, not, List, [], ◌∷◌, ◌++◌, Option, Some, None, IsSome, length, length-drop, take, drop, refl, sym, ap, slice_get, subst, arith, slice_get_within, IsTotalOrder, insert, remove, Ordering, KeyFits, Address, item_addresses_of, IsBTree, IsValidIn, TreeState, item_of, node_map, pairs_of, addresses-tree, IsNext, item-occupied, occupied-item}
+use Rattle.btree_map.proofs.Common.{◌≡◌, ◌∙◌, ℕ, suc, ◌+◌, ◌<◌, ◌≤◌, Bool, true, false, not, List, [], ◌∷◌, ◌++◌, Option, Some, None, IsSome, length, length-drop, take, drop, refl, sym, ap, slice_get, subst, arith, slice_get_within, IsTotalOrder, insert, remove, Ordering, KeyFits, Address, item_addresses_of, IsBTree, IsValidIn, TreeState, item_of, node_map, pairs_of, IsNext, item-occupied, occupied-item}
 use Rattle.std.proofs.Common.{◌↔◌, is_none, is_some}
 use Rattle.std.proofs.lemmas.List.{drop_all}
+use Rattle.std.proofs.lemmas.List.Edits.{length-insert, length-remove}
 use Rattle.btree_laws.specs.Place.{IsOccupied}
 use Rattle.btree_laws.specs.TreeState.{IsOccupiedIn}
 use Rattle.btree_laws.proofs.Options.{some-none}
 use Rattle.btree_find.specs.Ends.{IsLastValid}
 use Rattle.btree_find.specs.Fits.{FitsAt}
 use Rattle.btree_find.specs.Navigation.{HasPlace, IsNormalized}
-use Rattle.btree_find.proofs.PlaceLemmas.{has-place, only}
+use Rattle.btree_find.proofs.PlaceLemmas.{has-place}
 use Rattle.btree_ext.specs.InsertAt.{InsertsAt}
 use Rattle.btree_ext.specs.Remove.{IsRemoved}
 use Rattle.btree_map.specs.Editing.{FitsBetween}
-use Rattle.btree_map.proofs.CursorLemmas.{get_none, listed-item, listed-occupied, listed-valid}
+use Rattle.btree_map.proofs.CursorLemmas.{get_none}
+use Rattle.btree_map.proofs.ListedItems.{counted, listed-item, listed-occupied, listed-place, listed-valid}
 use Rattle.btree_map.proofs.EditingLists.{between-fits, drop-first, fits-between, insert-drop, insert-take, remove-drop, remove-take}
 
 none-there : (first : Option Address) → is_none first ≡ true → first ≡ None
@@ -43,15 +45,11 @@ occupied-back s a is = by a.offset is
     by None at = absurd at
     by (Some n) at = refl
 
-module _ {K V : Type 0} (cmp : K → K → Ordering) (laws : IsTotalOrder cmp) (s : TreeState K V) (tree : IsBTree cmp s) where
-  -- there are as many addresses as pairs
-  pub counted : length (item_addresses_of s) ≡ length (pairs_of s)
-  counted = (addresses-tree cmp laws s tree).items.counted
-
+module _ {K V : Type 0} (s : TreeState K V) where
   module _ (first : Option Address) (front : ℕ) (stands : first ≡ slice_get (item_addresses_of s) front) where
     -- without a next item nothing is left
     pub past-low : first ≡ None → length (pairs_of s) ≤ front
-    past-low none = let past = get_none (item_addresses_of s) front (sym stands ∙ none) in omega (arith, counted)
+    past-low none = let past = get_none (item_addresses_of s) front (sym stands ∙ none) in omega (arith, counted s)
 
     pub past-empty : first ≡ None → drop front (pairs_of s) ≡ []
     past-empty none = drop_all front (pairs_of s) (past-low none)
@@ -62,7 +60,7 @@ module _ {K V : Type 0} (cmp : K → K → Ordering) (laws : IsTotalOrder cmp) (
     at-some : (at : Address) → first ≡ Some at → 0 < length (drop front (pairs_of s))
     at-some at is =
         let within = slice_get_within (item_addresses_of s) front at (sym stands ∙ is) in
-        omega (arith, within, counted, length-drop front (pairs_of s))
+        omega (arith, within, counted s, length-drop front (pairs_of s))
 
     pub left-some : first ≡ None → 0 < length (drop front (pairs_of s)) → ⊥
     left-some none some = let e = ap length (past-empty none) in omega arith
@@ -86,16 +84,16 @@ module _ {K V : Type 0} (cmp : K → K → Ordering) (laws : IsTotalOrder cmp) (
       at-listed = sym stands ∙ is
 
       pub at-first : item_of s at ≡ slice_get (drop front (pairs_of s)) 0
-      at-first = listed-item cmp laws s tree at front at-listed ∙ sym (drop-first front (pairs_of s))
+      at-first = listed-item s at front at-listed ∙ sym (drop-first front (pairs_of s))
 
       pub at-within : front < length (item_addresses_of s)
       at-within = slice_get_within (item_addresses_of s) front at at-listed
 
       pub at-occupied : IsOccupiedIn s at
-      at-occupied = listed-occupied cmp laws s tree at front at-listed
+      at-occupied = listed-occupied s at front at-listed
 
       pub at-valid : IsValidIn s at
-      at-valid = listed-valid cmp laws s tree at front at-listed
+      at-valid = listed-valid s at front at-listed
 
       pub at-there : item_of s at ≡ None → ⊥
       at-there = some-none (item_of s at) (occupied-item s at at-occupied)
@@ -103,38 +101,38 @@ module _ {K V : Type 0} (cmp : K → K → Ordering) (laws : IsTotalOrder cmp) (
       pub at-back : IsSome at.offset
       at-back = occupied-back s at at-occupied
 
-      pub at-place : HasPlace s at front
-      at-place = has-place cmp laws s tree at front ((addresses-tree cmp laws s tree).items.right front at at-listed).1
+      pub at-place : {cmp : K → K → Ordering} → IsTotalOrder cmp → IsBTree cmp s → HasPlace s at front
+      at-place {cmp} laws tree = has-place cmp laws s tree at front (listed-place s at front at-listed)
 
     -- past the last item, the last back address is at the place
     pub end-place : first ≡ None → front ≤ length (item_addresses_of s) → (a : Address) → IsLastValid s a → HasPlace s a front
     end-place none low a last =
         let past = past-low none in
-        let end : length (pairs_of s) ≡ front = omega (arith, counted) in
+        let end : length (pairs_of s) ≡ front = omega (arith, counted s) in
         subst (HasPlace s a) end last.at.has
 
   -- ---- whether a key fits at the place of a back address
   module _ (k : K) (gap : Address) (front : ℕ) (has : HasPlace s gap front) (low : front ≤ length (item_addresses_of s)) where
-    pub fits-at : FitsBetween cmp k (take front (pairs_of s)) (drop front (pairs_of s)) → FitsAt cmp k s gap
-    fits-at between = record {
+    pub fits-at : {cmp : K → K → Ordering} → FitsBetween cmp k (take front (pairs_of s)) (drop front (pairs_of s)) → FitsAt cmp k s gap
+    fits-at {cmp} between = record {
       place = front;
       has = has;
-      fits = between-fits cmp k front (pairs_of s) (omega (arith, counted, low)) between;
+      fits = between-fits cmp k front (pairs_of s) (omega (arith, counted s, low)) between;
     }
 
-    pub at-fits : FitsAt cmp k s gap → FitsBetween cmp k (take front (pairs_of s)) (drop front (pairs_of s))
-    at-fits f =
+    pub at-fits : {cmp : K → K → Ordering} → FitsAt cmp k s gap → FitsBetween cmp k (take front (pairs_of s)) (drop front (pairs_of s))
+    at-fits {cmp} f =
         let same : f.place ≡ front = has.only f.place f.has.at in
         fits-between cmp k front (pairs_of s) (subst (λ n. KeyFits cmp k n (pairs_of s)) same f.fits)
 
-module _ {K V : Type 0} (cmp : K → K → Ordering) (laws : IsTotalOrder cmp) (old new : TreeState K V) (tree : IsBTree cmp old) (front : ℕ) where
+module _ {K V : Type 0} {cmp : K → K → Ordering} (old new : TreeState K V) (front : ℕ) where
   -- ---- after an insertion at the place
   module _ (gap at : Address) (x : K × V) (i : InsertsAt old new gap cmp at x) (has : HasPlace old gap front) (low : front ≤ length (item_addresses_of old)) where
     insert-pairs : pairs_of new ≡ insert (pairs_of old) front x
     insert-pairs = i.pairs ∙ ap (λ n. insert (pairs_of old) n x) (has.only i.place i.has.at)
 
     low-pairs : front ≤ length (pairs_of old)
-    low-pairs = omega (arith, counted cmp laws old tree, low)
+    low-pairs = omega (arith, counted old, low)
 
     pub insert-passed : take (front + 1) (pairs_of new) ≡ take front (pairs_of old) ++ x ∷ []
     insert-passed = ap (take (front + 1)) insert-pairs ∙ insert-take x front (pairs_of old) low-pairs
@@ -152,14 +150,13 @@ module _ {K V : Type 0} (cmp : K → K → Ordering) (laws : IsTotalOrder cmp) (
 
     pub insert-within : front + 1 ≤ length (item_addresses_of new)
     insert-within =
-        let t = i.inserted.tree in
-        let more = i.inserted.longer in
-        omega (arith, counted cmp laws old tree, counted cmp laws new t, low, more, tree.counted, t.counted)
+        let more = ap length insert-pairs ∙ length-insert (pairs_of old) front x low-pairs in
+        omega (arith, counted new, low-pairs, more)
 
   -- ---- after a removal there
   module _ (at after : Address) (x : K × V) (r : IsRemoved old new cmp at x after) (listed : slice_get (item_addresses_of old) front ≡ Some at) where
     here : r.place ≡ front
-    here = only cmp laws old tree at front r.place ((addresses-tree cmp laws old tree).items.right front at listed).1 r.has.at
+    here = sym (r.has.only front (listed-place old at front listed))
 
     remove-pairs : pairs_of new ≡ remove (pairs_of old) front
     remove-pairs = r.pairs ∙ ap (remove (pairs_of old)) here
@@ -180,7 +177,6 @@ module _ {K V : Type 0} (cmp : K → K → Ordering) (laws : IsTotalOrder cmp) (
 
     pub remove-within : front ≤ length (item_addresses_of new)
     remove-within =
-        let t = r.tree in
-        let fewer = r.shorter in
-        let some = slice_get_within (item_addresses_of old) front at listed in
-        omega (arith, counted cmp laws old tree, counted cmp laws new t, some, fewer, tree.counted, t.counted)
+        let some = slice_get_within (pairs_of old) front x there in
+        let fewer = ap length remove-pairs in
+        omega (arith, counted new, some, fewer, length-remove (pairs_of old) front some)

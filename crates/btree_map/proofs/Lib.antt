@@ -3,6 +3,7 @@
 pub mod Common
 pub mod ListLemmas
 pub mod EntryLemmas
+pub mod ListedItems
 pub mod RemovalLemmas
 pub mod ExtensionLemmas
 pub mod AscendingLemmas

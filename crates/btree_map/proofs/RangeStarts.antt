@@ -1,5 +1,5 @@
 -- Where a cursor starts that has bounds: the addresses of its ends, and the pairs from and up to them.
-use Rattle.btree_map.proofs.Common.{◌≡◌, ◌∙◌, suc, ◌-◌, List, Option, Some, drop, length, nat_lt, not, slice_get, sym, take, ap, arith, entries_between, is_from_start, is_past_end, IsTotalOrder, is_le, Ordering, Bound, Included, Excluded, Unbounded, Address, addresses-tree, Rises, rises, item_addresses_of, TreeState, IsBTree, item_of, node_map, pairs_of, prior, IsNext, from_place, index_after, index_of, to_place}
+use Rattle.btree_map.proofs.Common.{◌≡◌, ◌∙◌, suc, ◌-◌, List, Option, Some, drop, length, nat_lt, not, slice_get, sym, take, ap, arith, entries_between, is_from_start, is_past_end, IsTotalOrder, is_le, Ordering, Bound, Included, Excluded, Unbounded, Address, Rises, rises, item_addresses_of, TreeState, IsBTree, item_of, node_map, pairs_of, prior, IsNext, from_place, index_after, index_of, to_place}
 use Rattle.std.proofs.lemmas.List.Sums.{count_by-le-length}
 use Rattle.btree_item.proofs.PairLemmas.{before-from_Err, before-from_Ok, found-from_Err}
 use Rattle.btree_laws.proofs.Places.OnePlace.{one_place-well}
@@ -8,7 +8,8 @@ use Rattle.btree_find.specs.Ends.{IsFirstItem, IsLastItem}
 use Rattle.btree_find.specs.Navigation.{IsNormalized, IsPrevious}
 use Rattle.btree_walk.specs.Bounds.{pairs_from}
 use Rattle.btree_map.specs.Spans.{pairs_before}
-use Rattle.btree_map.proofs.CursorLemmas.{before-listed, listed-item}
+use Rattle.btree_map.proofs.CursorLemmas.{before-listed}
+use Rattle.btree_map.proofs.ListedItems.{counted, listed-item, listed-place}
 use Rattle.btree_map.proofs.IndexLemmas.{IsOnce, after-is, index-is}
 use Rattle.btree_map.proofs.PlaceLemmas.{below-end, below-place, between-places, count-all, count-none, drop-from, order-of, past-found, past-missing, take-from, up_to-found, up_to-missing}
 
@@ -24,8 +25,7 @@ module _ {K V : Type 0} (cmp : K → K → Ordering) (laws : IsTotalOrder cmp) (
 
   pub once : IsOnce list
   once i j a p q =
-      let at = (addresses-tree cmp laws s tree).items.right in
-      one_place-well cmp laws (node_map s) pairs s.len s.root tree a.id a.offset i j (at i a p).1 (at j a q).1
+      one_place-well cmp laws (node_map s) pairs s.len s.root tree a.id a.offset i j (listed-place s a i p) (listed-place s a j q)
 
   -- without a bound
   pub whole-first : (found : Option Address) → IsFirstItem s found → found ≡ slice_get list (from_place cmp Unbounded pairs)
@@ -85,7 +85,7 @@ module _ {K V : Type 0} (cmp : K → K → Ordering) (laws : IsTotalOrder cmp) (
   module _ (lo : Bound K) (first : Option Address) (first_is : first ≡ slice_get list (from_place cmp lo pairs)) where
     pub from-index : index_of list first ≡ from_place cmp lo pairs
     from-index =
-        let long = (addresses-tree cmp laws s tree).items.counted in
+        let long = counted s in
         let low = count_by-le-length (λ (x : K × V). not (is_from_start cmp lo x.0)) pairs in
         index-is list once (from_place cmp lo pairs) first first_is (omega arith)
 
@@ -100,7 +100,7 @@ module _ {K V : Type 0} (cmp : K → K → Ordering) (laws : IsTotalOrder cmp) (
       (last_is : last ≡ prior list (to_place cmp hi pairs)) where
     pub between-ends : take (index_after list last - index_of list first) (drop (index_of list first) pairs) ≡ entries_between cmp lo hi pairs
     between-ends =
-        let long = (addresses-tree cmp laws s tree).items.counted in
+        let long = counted s in
         let high = count_by-le-length (λ (x : K × V). not (is_past_end cmp hi x.0)) pairs in
         let front : index_of list first ≡ from_place cmp lo pairs = from-index lo first first_is in
         let back : index_after list last ≡ to_place cmp hi pairs = after-is list once (to_place cmp hi pairs) last last_is (omega arith) in
@@ -111,5 +111,5 @@ module _ {K V : Type 0} (cmp : K → K → Ordering) (laws : IsTotalOrder cmp) (
       → item_of s a ≡ Some x → item_of s b ≡ Some y → is_le (cmp x.0 y.0) ≡ nat_lt (index_of list (Some a)) (index_after list (Some b))
   ends-ordered a b x y at_a at_b is_a is_b =
       order-of cmp laws pairs (index_of list (Some a)) (index_of list (Some b)) x y up
-      (sym (listed-item cmp laws s tree a (index_of list (Some a)) at_a) ∙ is_a)
-      (sym (listed-item cmp laws s tree b (index_of list (Some b)) at_b) ∙ is_b)
+      (sym (listed-item s a (index_of list (Some a)) at_a) ∙ is_a)
+      (sym (listed-item s b (index_of list (Some b)) at_b) ∙ is_b)

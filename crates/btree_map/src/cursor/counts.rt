@@ -28,7 +28,6 @@ pub(crate) fn count_from<K: Ord, V, C: NodesMut<K, V>>(
     requires { IsFirstListed map.now first }
     ensures { item_index map.now first + result ≡ length (pairs_of map.now) }
 {
-    map.tell_well_formed();
     // For the prover: the length is a `usize`.
     let _len = map.len();
     let mut next = first;

@@ -29,13 +29,8 @@ impl<K: Ord, V, C: NodesMut<K, V>> BTreeMap<K, V, C> {
         ensures passed { passed_of result ≡ [] }
         ensures left { left_of result ≡ pairs_of self.old }
     {
-        self.tell_well_formed();
         let first = self.first_item_address();
-        EntriesMut {
-            map: self,
-            first,
-            known: Some(0),
-        }
+        EntriesMut::at(self, first, 0)
     }
 
     /// Returns a cursor as `entries_mut` does. It starts before the first pair that the bound lets in, as the start of a range.
@@ -47,7 +42,6 @@ impl<K: Ord, V, C: NodesMut<K, V>> BTreeMap<K, V, C> {
         ensures passed { passed_of result ≡ pairs_before K.cmp (bound_key start.entry) self.old }
         ensures left { left_of result ≡ pairs_from K.cmp (bound_key start.entry) self.old }
     {
-        self.tell_well_formed();
         let first = first_from(self, start);
         EntriesMut {
             map: self,
@@ -78,7 +72,6 @@ impl<'a, K: Ord, V, C: NodesMut<K, V>> EntriesMut<'a, K, V, C> {
     pub fn peek(&self) -> Option<&Item<K, V>>
         ensures { option_copied result ≡ slice_get (left_of self.now) 0 }
     {
-        self.map.tell_well_formed();
         let Some(at) = self.first else {
             return None;
         };
@@ -90,7 +83,6 @@ impl<'a, K: Ord, V, C: NodesMut<K, V>> EntriesMut<'a, K, V, C> {
         ensures { result ≡
             slice_get (item_addresses_of self.now.map.now) (length (passed_of self.now)) }
     {
-        self.map.tell_well_formed();
         self.first
     }
 
@@ -99,14 +91,12 @@ impl<'a, K: Ord, V, C: NodesMut<K, V>> EntriesMut<'a, K, V, C> {
         ensures none { IsTrue result ↔ (left_of self.now ≡ []) }
         ensures some { IsFalse result ↔ (0 < length (left_of self.now)) }
     {
-        self.map.tell_well_formed();
         self.first.is_none()
     }
 
     fn count_left(&self) -> usize
         ensures { result ≡ length (left_of self.now) }
     {
-        self.map.tell_well_formed();
         let Some(passed) = self.known else {
             return count_from(self.map, self.first);
         };
@@ -117,7 +107,6 @@ impl<'a, K: Ord, V, C: NodesMut<K, V>> EntriesMut<'a, K, V, C> {
     pub(crate) fn count_passed(&self) -> usize
         ensures { result ≡ entry_front self.now }
     {
-        self.map.tell_well_formed();
         self.map.len().saturating_sub(self.count_left())
     }
 
@@ -151,7 +140,6 @@ impl<'a, K: Ord, V, C: NodesMut<K, V>> EntriesMut<'a, K, V, C> {
         ensures { IsTrue result ↔
             FitsBetween K.cmp key.now (passed_of self.now) (left_of self.now) }
     {
-        self.map.tell_well_formed();
         self.map.fits_at(self.gap(), key)
     }
 }
@@ -167,7 +155,6 @@ impl<'a, K: Ord + Drop, V: Drop, C: NodesMut<K, V>> EntriesMut<'a, K, V, C> {
         ensures returned { IfErr result (λ r. (r.key ≡ key) × (r.value ≡ value)) }
         ensures refused { IfErr result (λ r. RefusesEntry self.old self.new r.cause) }
     {
-        self.map.tell_well_formed();
         let gap = self.gap();
         match self.map.insert_at(gap, Item::new(key, value)) {
             Ok(at) => {
@@ -191,7 +178,6 @@ impl<'a, K: Ord + Drop, V: Drop, C: NodesMut<K, V>> EntriesMut<'a, K, V, C> {
         ensures none { IfNone result (left_of self.old ≡ []) }
         ensures unchanged { IfNone result (self.new ≡ self.old) }
     {
-        self.map.tell_well_formed();
         let Some(at) = self.first else {
             return None;
         };
@@ -207,7 +193,6 @@ impl<'a, K: Ord + Drop, V: Drop, C: NodesMut<K, V>> EntriesMut<'a, K, V, C> {
         requires { 0 < length (left_of self.old) }
         ensures { (x : K × V) × PassesEntry self.old self.new x }
     {
-        self.map.tell_well_formed();
         // For the prover: the length is a `usize`.
         let _len = self.map.len();
         let Some(at) = self.first else {
@@ -228,7 +213,6 @@ impl<'a, K: Ord + Drop, V: Drop, C: NodesMut<K, V>> EntriesMut<'a, K, V, C> {
         ensures pair { slice_get (left_of self.old) 0 ≡ Some (result.0.now, result.1.now) }
         ensures writes { (w : V) → WritesPassed self.old result.0.now result.1.now w }
     {
-        self.map.tell_well_formed();
         // For the prover: the length is a `usize`.
         let _len = self.map.len();
         let Some(at) = self.first else {
@@ -247,7 +231,6 @@ impl<'a, K: Ord + Drop, V: Drop, C: NodesMut<K, V>> EntriesMut<'a, K, V, C> {
         ensures pair { slice_get (left_of self.old) 0 ≡ Some (result.0.now, result.1.now) }
         ensures writes { (w : V) → WritesPeeked self.old result.0.now result.1.now w }
     {
-        self.map.tell_well_formed();
         let Some(at) = self.first else {
             unreachable!();
         };

@@ -47,7 +47,6 @@ impl<'a, K: Ord, V, C: NodesMut<K, V>> IterMut<'a, K, V, C> {
         ensures value { result ≡ self.now.back - self.now.front }
         ensures left { result ≡ length (pairs_left self.now) }
     {
-        self.map.tell_well_formed();
         self.back.saturating_sub(self.front)
     }
 

@@ -18,7 +18,6 @@ impl<'a, K: Ord, V, C: NodesMut<K, V>> RangeMut<'a, K, V, C> {
         ensures places { result ≡ not (nat_lt (range_front self.now) (range_back self.now)) }
         ensures none { IsTrue result ↔ (range_left self.now ≡ []) }
     {
-        self.map.tell_well_formed();
         !self.any_left
     }
 }

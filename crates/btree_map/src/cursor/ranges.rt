@@ -18,7 +18,8 @@ pub(crate) fn first_from<K: Ord, V, C: NodesMut<K, V>>(
     map: &BTreeMap<K, V, C>,
     start: Bound<&K>,
 ) -> Option<Address>
-    ensures { result ≡ first_address K.cmp (bound_key start.entry) map.now }
+    ensures tree { IsBTree K.cmp map.now }
+    ensures value { result ≡ first_address K.cmp (bound_key start.entry) map.now }
 {
     map.tell_well_formed();
     match start {

@@ -16,7 +16,6 @@ impl<'a, K: Ord, V, C: NodesMut<K, V>> ValuesMut<'a, K, V, C> {
         ensures value { result ≡ self.now.back - self.now.front }
         ensures left { result ≡ length (values_left self.now) }
     {
-        self.map.tell_well_formed();
         self.back.saturating_sub(self.front)
     }
 

@@ -20,12 +20,11 @@ pub invariant_of-self-lent : goal.invariant_of-self-lent
 invariant_of-self-lent g c w =
     let now = c.args.self.now in
     let s = now.map.now in
-    let tree = c.pair_mut.ensures.well_formed in
     let stands = last-stands (item_addresses_of s) now.last now.front now.back c.requires now.last_stands in (
       stays-first s c.in-Some.at w now.first now.front now.first_stands,
       (
         stays-last s c.in-Some.at w c.address_before-self.result (now.back - 1)
-            (stands-previous g.K.Ord.cmp g.met.K.Ord.total s tree now.last c.in-Some.at c.in-Some.is (now.back - 1) stands
+            (stands-previous s now.last c.in-Some.at c.in-Some.is (now.back - 1) stands
             c.address_before-self.result (c.address_before-self.ensures.before (now.back - 1))),
         (stays-within s c.in-Some.at w (now.back - 1) (less-low now.back (length (item_addresses_of s)) now.within), tt),
       ),
@@ -35,15 +34,14 @@ pub returns : goal.returns
 returns g c =
     let now = c.args.self.now in
     let s = now.map.now in
-    let tree = c.pair_mut.ensures.well_formed in
     let stands = last-stands (item_addresses_of s) now.last now.front now.back c.requires now.last_stands in
-    let pair = stands-pair g.K.Ord.cmp g.met.K.Ord.total s tree now.last c.in-Some.at c.in-Some.is (now.back - 1) stands _ c.pair_mut.ensures.pair in (
+    let pair = stands-pair s now.last c.in-Some.at c.in-Some.is (now.back - 1) stands _ c.pair_mut.ensures.pair in (
       (
         refl,
         λ w. same_cursor now.map _ _ _ _ _ _ now.front (now.back - 1)
-            (stands-state g.K.Ord.cmp g.met.K.Ord.total s tree now.last c.in-Some.at c.in-Some.is (now.back - 1) stands w)
+            (stands-state s now.last c.in-Some.at c.in-Some.is (now.back - 1) stands w)
             refl
-            (stands-previous g.K.Ord.cmp g.met.K.Ord.total s tree now.last c.in-Some.at c.in-Some.is (now.back - 1) stands
+            (stands-previous s now.last c.in-Some.at c.in-Some.is (now.back - 1) stands
             c.address_before-self.result (c.address_before-self.ensures.before (now.back - 1)))
             _ _ _ _ _ _,
       ),
@@ -51,7 +49,7 @@ returns g c =
         writes_back = tt;
         pair = pair;
         writes = λ w. writes-last now c.requires _ _ w pair
-            (stands-written g.K.Ord.cmp g.met.K.Ord.total s tree now.last c.in-Some.at c.in-Some.is (now.back - 1) stands _ _ w
+            (stands-written s now.last c.in-Some.at c.in-Some.is (now.back - 1) stands _ _ w
             c.pair_mut.ensures.pair (c.pair_mut.ensures.exchanged w));
       },
     )

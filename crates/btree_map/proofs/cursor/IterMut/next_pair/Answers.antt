@@ -7,10 +7,9 @@ use Rattle.btree_map.proofs.cursor.IterMut.next_pair.Goals as goal
 pub invariant_of-self-lent : goal.invariant_of-self-lent
 invariant_of-self-lent g c w =
     let now = c.args.self.now in
-    let s = now.map.now in
-    let tree = c.pair_mut.ensures.well_formed in (
+    let s = now.map.now in (
       stays-first s c.in-Some.at w c.address_after-self.result (now.front + 1)
-          (stands-next g.K.Ord.cmp g.met.K.Ord.total s tree now.first c.in-Some.at c.in-Some.is now.front now.first_stands
+          (stands-next s now.first c.in-Some.at c.in-Some.is now.front now.first_stands
           c.address_after-self.result (c.address_after-self.ensures.after now.front)),
       (stays-last s c.in-Some.at w now.last now.back now.last_stands, (stays-within s c.in-Some.at w now.back now.within, tt)),
     )
@@ -18,22 +17,21 @@ invariant_of-self-lent g c w =
 pub returns : goal.returns
 returns g c =
     let now = c.args.self.now in
-    let s = now.map.now in
-    let tree = c.pair_mut.ensures.well_formed in (
+    let s = now.map.now in (
       (
         refl,
         λ w. same_cursor now.map _ _ _ _ _ _ (now.front + 1) now.back
-            (stands-state g.K.Ord.cmp g.met.K.Ord.total s tree now.first c.in-Some.at c.in-Some.is now.front now.first_stands w)
-            (stands-next g.K.Ord.cmp g.met.K.Ord.total s tree now.first c.in-Some.at c.in-Some.is now.front now.first_stands
+            (stands-state s now.first c.in-Some.at c.in-Some.is now.front now.first_stands w)
+            (stands-next s now.first c.in-Some.at c.in-Some.is now.front now.first_stands
             c.address_after-self.result (c.address_after-self.ensures.after now.front))
             refl _ _ _ _ _ _,
       ),
       record {
         writes_back = tt;
-        pair = stands-pair g.K.Ord.cmp g.met.K.Ord.total s tree now.first c.in-Some.at c.in-Some.is now.front now.first_stands _ c.pair_mut.ensures.pair;
+        pair = stands-pair s now.first c.in-Some.at c.in-Some.is now.front now.first_stands _ c.pair_mut.ensures.pair;
         writes = λ w. writes-first now c.requires _ _ w
-            (stands-pair g.K.Ord.cmp g.met.K.Ord.total s tree now.first c.in-Some.at c.in-Some.is now.front now.first_stands _ c.pair_mut.ensures.pair)
-            (stands-written g.K.Ord.cmp g.met.K.Ord.total s tree now.first c.in-Some.at c.in-Some.is now.front now.first_stands _ _ w
+            (stands-pair s now.first c.in-Some.at c.in-Some.is now.front now.first_stands _ c.pair_mut.ensures.pair)
+            (stands-written s now.first c.in-Some.at c.in-Some.is now.front now.first_stands _ _ w
             c.pair_mut.ensures.pair (c.pair_mut.ensures.exchanged w));
       },
     )

@@ -1,4 +1,5 @@
-use Rattle.btree_map.proofs.Common.{ap, not, addresses-tree}
+use Rattle.btree_map.proofs.Common.{ap, not}
+use Rattle.btree_map.proofs.ListedItems.{counted}
 use Rattle.btree_map.proofs.RangeSteps.{none-left, told-none}
 use Rattle.btree_map.proofs.cursor.RangeMut.is_empty.Goals as goal
 
@@ -8,5 +9,5 @@ returns-clause-places g c = ap not c.args.self.now.ordered
 pub returns-clause-none : goal.returns-clause-none
 returns-clause-none g c =
     let now = c.args.self.now in
-    let long = (addresses-tree g.K.Ord.cmp g.met.K.Ord.total now.map.now c.tell_well_formed.ensures.well_formed).items.counted in
+    let long = counted now.map.now in
     (none-left now, told-none now long)

@@ -14,7 +14,7 @@ invariant_of-self g c =
     let list = item_addresses_of s in
     let some = some-left now c.requires in
     let stands = last-stands list now.last (range_front now) (range_back now) some now.last_stands in
-    let previous = stands-previous g.K.Ord.cmp g.met.K.Ord.total s tree now.last c.in-Some.at c.in-Some.is (range_back now - 1) stands
+    let previous = stands-previous s now.last c.in-Some.at c.in-Some.is (range_back now - 1) stands
     c.address_before-self.result (c.address_before-self.ensures.before (range_back now - 1)) in
     record {
       first_stands = now.first_stands;
@@ -34,7 +34,7 @@ invariant_of-self-lent g c w =
     let list = item_addresses_of s in
     let some = some-left now c.requires in
     let stands = last-stands list now.last (range_front now) (range_back now) some now.last_stands in
-    let previous = stands-previous g.K.Ord.cmp g.met.K.Ord.total s tree now.last c.in-Some.at c.in-Some.is (range_back now - 1) stands
+    let previous = stands-previous s now.last c.in-Some.at c.in-Some.is (range_back now - 1) stands
     c.address_before-self.result (c.address_before-self.ensures.before (range_back now - 1)) in (
       again-first s c.in-Some.at w now.first (range_front now) now.first_stands,
       (
@@ -59,13 +59,13 @@ returns g c =
     let unique = once g.K.Ord.cmp g.met.K.Ord.total s tree in
     let some = some-left now c.requires in
     let stands = last-stands list now.last (range_front now) (range_back now) some now.last_stands in
-    let previous = stands-previous g.K.Ord.cmp g.met.K.Ord.total s tree now.last c.in-Some.at c.in-Some.is (range_back now - 1) stands
+    let previous = stands-previous s now.last c.in-Some.at c.in-Some.is (range_back now - 1) stands
     c.address_before-self.result (c.address_before-self.ensures.before (range_back now - 1)) in
-    let pair = stands-pair g.K.Ord.cmp g.met.K.Ord.total s tree now.last c.in-Some.at c.in-Some.is (range_back now - 1) stands _ c.pair_mut.ensures.pair in (
+    let pair = stands-pair s now.last c.in-Some.at c.in-Some.is (range_back now - 1) stands _ c.pair_mut.ensures.pair in (
       (
         refl,
         λ w. same_range now.map _ _ _ _ _ _ _ _
-            (stands-state g.K.Ord.cmp g.met.K.Ord.total s tree now.last c.in-Some.at c.in-Some.is (range_back now - 1) stands w)
+            (stands-state s now.last c.in-Some.at c.in-Some.is (range_back now - 1) stands w)
             now.first_stands previous
             (c.ne-self.ensures
             ∙ differ-told now.first now.last
@@ -77,7 +77,7 @@ returns g c =
         writes_back = tt;
         pair = pair;
         writes = λ w. writes-last-in-range now unique some _ _ w pair
-            (stands-written g.K.Ord.cmp g.met.K.Ord.total s tree now.last c.in-Some.at c.in-Some.is (range_back now - 1) stands _ _ w
+            (stands-written s now.last c.in-Some.at c.in-Some.is (range_back now - 1) stands _ _ w
             c.pair_mut.ensures.pair (c.pair_mut.ensures.exchanged w));
       },
     )

@@ -12,7 +12,7 @@ invariant_of-self g c =
     let s = now.map.now in
     let tree = c.address_after-self.ensures.tree in
     let list = item_addresses_of s in
-    let next = stands-next g.K.Ord.cmp g.met.K.Ord.total s tree now.first c.in-Some.at c.in-Some.is (range_front now) now.first_stands
+    let next = stands-next s now.first c.in-Some.at c.in-Some.is (range_front now) now.first_stands
     c.address_after-self.result (c.address_after-self.ensures.after (range_front now)) in
     record {
       first_stands = stands-first list c.address_after-self.result (range_front now + 1) next;
@@ -30,7 +30,7 @@ invariant_of-self-lent g c w =
     let s = now.map.now in
     let tree = c.address_after-self.ensures.tree in
     let list = item_addresses_of s in
-    let next = stands-next g.K.Ord.cmp g.met.K.Ord.total s tree now.first c.in-Some.at c.in-Some.is (range_front now) now.first_stands
+    let next = stands-next s now.first c.in-Some.at c.in-Some.is (range_front now) now.first_stands
     c.address_after-self.result (c.address_after-self.ensures.after (range_front now)) in (
       again-first s c.in-Some.at w c.address_after-self.result (range_front now + 1) next,
       (
@@ -54,13 +54,13 @@ returns g c =
     let list = item_addresses_of s in
     let unique = once g.K.Ord.cmp g.met.K.Ord.total s tree in
     let some = some-left now c.requires in
-    let next = stands-next g.K.Ord.cmp g.met.K.Ord.total s tree now.first c.in-Some.at c.in-Some.is (range_front now) now.first_stands
+    let next = stands-next s now.first c.in-Some.at c.in-Some.is (range_front now) now.first_stands
     c.address_after-self.result (c.address_after-self.ensures.after (range_front now)) in
-    let pair = stands-pair g.K.Ord.cmp g.met.K.Ord.total s tree now.first c.in-Some.at c.in-Some.is (range_front now) now.first_stands _ c.pair_mut.ensures.pair in (
+    let pair = stands-pair s now.first c.in-Some.at c.in-Some.is (range_front now) now.first_stands _ c.pair_mut.ensures.pair in (
       (
         refl,
         λ w. same_range now.map _ _ _ _ _ _ _ _
-            (stands-state g.K.Ord.cmp g.met.K.Ord.total s tree now.first c.in-Some.at c.in-Some.is (range_front now) now.first_stands w)
+            (stands-state s now.first c.in-Some.at c.in-Some.is (range_front now) now.first_stands w)
             next now.last_stands
             (c.ne-self.ensures
             ∙ differ-told now.first now.last
@@ -72,7 +72,7 @@ returns g c =
         writes_back = tt;
         pair = pair;
         writes = λ w. writes-first-in-range now unique some _ _ w pair
-            (stands-written g.K.Ord.cmp g.met.K.Ord.total s tree now.first c.in-Some.at c.in-Some.is (range_front now) now.first_stands _ _ w
+            (stands-written s now.first c.in-Some.at c.in-Some.is (range_front now) now.first_stands _ _ w
             c.pair_mut.ensures.pair (c.pair_mut.ensures.exchanged w));
       },
     )

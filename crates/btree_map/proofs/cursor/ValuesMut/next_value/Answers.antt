@@ -7,10 +7,9 @@ use Rattle.btree_map.proofs.cursor.ValuesMut.next_value.Goals as goal
 pub invariant_of-self-lent : goal.invariant_of-self-lent
 invariant_of-self-lent g c w =
     let now = c.args.self.now in
-    let s = now.map.now in
-    let tree = c.pair_mut-value.ensures.well_formed in (
+    let s = now.map.now in (
       stays-first s c.in-Some.at w c.address_after-self.result (now.front + 1)
-          (stands-next g.K.Ord.cmp g.met.K.Ord.total s tree now.first c.in-Some.at c.in-Some.is now.front now.first_stands
+          (stands-next s now.first c.in-Some.at c.in-Some.is now.front now.first_stands
           c.address_after-self.result (c.address_after-self.ensures.after now.front)),
       (stays-within s c.in-Some.at w now.back now.within, tt),
     )
@@ -19,13 +18,12 @@ pub returns : goal.returns
 returns g c =
     let now = c.args.self.now in
     let s = now.map.now in
-    let tree = c.pair_mut-value.ensures.well_formed in
-    let pair = stands-pair g.K.Ord.cmp g.met.K.Ord.total s tree now.first c.in-Some.at c.in-Some.is now.front now.first_stands _ c.pair_mut-value.ensures.pair in (
+    let pair = stands-pair s now.first c.in-Some.at c.in-Some.is now.front now.first_stands _ c.pair_mut-value.ensures.pair in (
       (
         refl,
         λ w. same_values now.map _ _ _ _ (now.front + 1) now.back
-            (stands-state g.K.Ord.cmp g.met.K.Ord.total s tree now.first c.in-Some.at c.in-Some.is now.front now.first_stands w)
-            (stands-next g.K.Ord.cmp g.met.K.Ord.total s tree now.first c.in-Some.at c.in-Some.is now.front now.first_stands
+            (stands-state s now.first c.in-Some.at c.in-Some.is now.front now.first_stands w)
+            (stands-next s now.first c.in-Some.at c.in-Some.is now.front now.first_stands
             c.address_after-self.result (c.address_after-self.ensures.after now.front))
             _ _ _ _,
       ),
@@ -33,7 +31,7 @@ returns g c =
         writes_back = tt;
         value = first-value now c.requires _ _ pair;
         writes = λ w. writes-value now c.requires _ _ pair w
-            (stands-written g.K.Ord.cmp g.met.K.Ord.total s tree now.first c.in-Some.at c.in-Some.is now.front now.first_stands _ _ w
+            (stands-written s now.first c.in-Some.at c.in-Some.is now.front now.first_stands _ _ w
             c.pair_mut-value.ensures.pair (c.pair_mut-value.ensures.exchanged w));
       },
     )

@@ -1,8 +1,8 @@
 use Rattle.btree_map.proofs.Common.{◌∙◌, IsSome, Some, nat_lt, subst, sym, ap, is_le, item_addresses_of, index_after, index_of}
 use Rattle.std.specs.Option.{option_copied}
-use Rattle.btree_map.proofs.CursorLemmas.{listed-occupied}
 use Rattle.btree_map.proofs.IndexLemmas.{own-first, own-last}
 use Rattle.btree_map.proofs.RangeStarts.{ends-ordered}
+use Rattle.btree_map.proofs.ListedItems.{listed-occupied}
 use Rattle.btree_map.proofs.cursor.ranges.are_in_order.Goals as goal
 
 pub unreachable-requires : goal.unreachable-requires
@@ -10,7 +10,7 @@ unreachable-requires g c =
     let s = c.args.map.now in
     let list = item_addresses_of s in
     let listed = own-first list c.args.first.now c.in-Some.low c.in-Some.is c.requires.first in
-    let occupied = listed-occupied g.K.Ord.cmp g.met.K.Ord.total s c.tell_well_formed.ensures.well_formed c.in-Some.low (index_of list (Some c.in-Some.low)) listed in
+    let occupied = listed-occupied s c.in-Some.low (index_of list (Some c.in-Some.low)) listed in
     let no = subst (λ o. IsSome o) c.in_default-item.is (c.item.ensures.occupied.1 occupied) in
     absurd (cc)
 
@@ -19,7 +19,7 @@ unreachable-requires-in_default-item-2 g c =
     let s = c.args.map.now in
     let list = item_addresses_of s in
     let listed = own-last list c.args.last.now c.in-Some-last.high c.in-Some-last.is c.requires.last in
-    let occupied = listed-occupied g.K.Ord.cmp g.met.K.Ord.total s c.tell_well_formed.ensures.well_formed c.in-Some-last.high (index_of list (Some c.in-Some-last.high)) listed in
+    let occupied = listed-occupied s c.in-Some-last.high (index_of list (Some c.in-Some-last.high)) listed in
     let no = subst (λ o. IsSome o) c.in_default-item-2.is (c.item-2.ensures.occupied.1 occupied) in
     absurd (cc)
 

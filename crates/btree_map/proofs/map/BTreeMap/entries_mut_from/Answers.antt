@@ -6,14 +6,14 @@ use Rattle.btree_map.proofs.map.BTreeMap.entries_mut_from.Goals as goal
 
 pub invariant_of-result : goal.invariant_of-result
 invariant_of-result g c = record {
-  first_stands = stands-first (item_addresses_of c.args.self.now) c.first_from-first.result _ c.first_from-first.ensures;
+  first_stands = stands-first (item_addresses_of c.args.self.now) c.first_from-first.result _ c.first_from-first.ensures.value;
   counted = known-none _;
 }
 
 pub returns-clause-passed : goal.returns-clause-passed
 returns-clause-passed g c =
-    before-first g.K.Ord.cmp g.met.K.Ord.total c.args.self.now c.tell_well_formed.ensures.well_formed (bound_key c.args.start) c.first_from-first.result c.first_from-first.ensures
+    before-first g.K.Ord.cmp g.met.K.Ord.total c.args.self.now c.first_from-first.ensures.tree (bound_key c.args.start) c.first_from-first.result c.first_from-first.ensures.value
 
 pub returns-clause-left : goal.returns-clause-left
 returns-clause-left g c =
-    from-first g.K.Ord.cmp g.met.K.Ord.total c.args.self.now c.tell_well_formed.ensures.well_formed (bound_key c.args.start) c.first_from-first.result c.first_from-first.ensures
+    from-first g.K.Ord.cmp g.met.K.Ord.total c.args.self.now c.first_from-first.ensures.tree (bound_key c.args.start) c.first_from-first.result c.first_from-first.ensures.value

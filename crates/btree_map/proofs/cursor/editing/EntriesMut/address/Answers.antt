@@ -1,6 +1,6 @@
 use Rattle.btree_map.proofs.Common.{◌≡◌, ◌∙◌, ap, arith, length, slice_get, item_addresses_of, pairs_of, entry_front, passed_of, index-within}
 use Rattle.std.proofs.Common.{length-take}
-use Rattle.btree_map.proofs.EditingLemmas.{counted}
+use Rattle.btree_map.proofs.ListedItems.{counted}
 use Rattle.btree_map.proofs.cursor.editing.EntriesMut.address.Goals as goal
 
 pub returns : goal.returns
@@ -10,7 +10,7 @@ returns g c =
     let place : entry_front now ≡ length (passed_of now) =
     omega (
       arith,
-      counted g.K.Ord.cmp g.met.K.Ord.total now.map.now c.tell_well_formed.ensures.well_formed,
+      counted now.map.now,
       index-within list now.first,
       length-take (entry_front now) (pairs_of now.map.now),
     ) in

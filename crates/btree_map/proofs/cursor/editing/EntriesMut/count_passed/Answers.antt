@@ -1,5 +1,5 @@
 use Rattle.btree_map.proofs.Common.{arith, length-drop, item_addresses_of, pairs_of, entry_front, index-within}
-use Rattle.btree_map.proofs.EditingLemmas.{counted}
+use Rattle.btree_map.proofs.ListedItems.{counted}
 use Rattle.btree_map.proofs.cursor.editing.EntriesMut.count_passed.Goals as goal
 
 pub returns : goal.returns
@@ -10,7 +10,7 @@ returns g c =
       c.len.ensures,
       c.count_left.ensures,
       c.saturating_sub.ensures,
-      counted g.K.Ord.cmp g.met.K.Ord.total now.map.now c.tell_well_formed.ensures.well_formed,
+      counted now.map.now,
       index-within (item_addresses_of now.map.now) now.first,
       length-drop (entry_front now) (pairs_of now.map.now),
     )

@@ -5,7 +5,7 @@ use Rattle.btree_map.proofs.cursor.editing.EntriesMut.fits.Goals as goal
 pub returns : goal.returns
 returns g c =
     let now = c.args.self.now in (
-      λ fits. at-fits g.K.Ord.cmp g.met.K.Ord.total now.map.now c.tell_well_formed.ensures.well_formed c.args.key.now c.gap.result (entry_front now) c.gap.ensures.has (index-within (item_addresses_of now.map.now) now.first) (c.fits_at.ensures.0 fits),
+      λ fits. at-fits now.map.now c.args.key.now c.gap.result (entry_front now) c.gap.ensures.has (index-within (item_addresses_of now.map.now) now.first) (c.fits_at.ensures.0 fits),
       λ between. c.fits_at.ensures.1
-          (fits-at g.K.Ord.cmp g.met.K.Ord.total now.map.now c.tell_well_formed.ensures.well_formed c.args.key.now c.gap.result (entry_front now) c.gap.ensures.has (index-within (item_addresses_of now.map.now) now.first) between),
+          (fits-at now.map.now c.args.key.now c.gap.result (entry_front now) c.gap.ensures.has (index-within (item_addresses_of now.map.now) now.first) between),
     )

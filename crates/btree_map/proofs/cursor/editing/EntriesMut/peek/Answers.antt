@@ -5,10 +5,10 @@ use Rattle.btree_map.proofs.cursor.editing.EntriesMut.peek.Goals as goal
 pub returns-in_default : goal.returns-in_default
 returns-in_default g c =
     let now = c.args.self.now in
-    past-first g.K.Ord.cmp g.met.K.Ord.total now.map.now c.tell_well_formed.ensures.well_formed now.first (entry_front now) now.first_stands c.in_default.is
+    past-first now.map.now now.first (entry_front now) now.first_stands c.in_default.is
 
 pub returns : goal.returns
 returns g c =
     let now = c.args.self.now in
     c.item.ensures.value
-    ∙ at-first g.K.Ord.cmp g.met.K.Ord.total now.map.now c.tell_well_formed.ensures.well_formed now.first (entry_front now) now.first_stands c.in-Some.at c.in-Some.is
+    ∙ at-first now.map.now now.first (entry_front now) now.first_stands c.in-Some.at c.in-Some.is

@@ -11,12 +11,12 @@ use Rattle.btree_map.proofs.cursor.editing.EntriesMut.peek_pair.Goals as goal
 pub unreachable-requires : goal.unreachable-requires
 unreachable-requires g c =
     let now = c.args.self.now in
-    left-some g.K.Ord.cmp g.met.K.Ord.total now.map.now c.tell_well_formed.ensures.well_formed now.first (entry_front now) now.first_stands c.in_default.is c.requires
+    left-some now.map.now now.first (entry_front now) now.first_stands c.in_default.is c.requires
 
 pub pair_mut-requires : goal.pair_mut-requires
 pair_mut-requires g c =
     let now = c.args.self.now in
-    at-occupied g.K.Ord.cmp g.met.K.Ord.total now.map.now c.tell_well_formed.ensures.well_formed now.first (entry_front now) now.first_stands c.in-Some.at c.in-Some.is
+    at-occupied now.map.now now.first (entry_front now) now.first_stands c.in-Some.at c.in-Some.is
 
 pub invariant_of-self-lent : goal.invariant_of-self-lent
 invariant_of-self-lent g c w =
@@ -29,12 +29,11 @@ pub returns : goal.returns
 returns g c =
     let now = c.args.self.now in
     let s = now.map.now in
-    let tree = c.tell_well_formed.ensures.well_formed in
-    let pair = stands-pair g.K.Ord.cmp g.met.K.Ord.total s tree now.first c.in-Some.at c.in-Some.is (entry_front now) now.first_stands _ c.pair_mut.ensures.pair in (
+    let pair = stands-pair s now.first c.in-Some.at c.in-Some.is (entry_front now) now.first_stands _ c.pair_mut.ensures.pair in (
       (
         refl,
         λ w. same_editing now.map _ _ _ _ _ _
-            (stands-state g.K.Ord.cmp g.met.K.Ord.total s tree now.first c.in-Some.at c.in-Some.is (entry_front now) now.first_stands w)
+            (stands-state s now.first c.in-Some.at c.in-Some.is (entry_front now) now.first_stands w)
             refl
             refl
             _ _ _ _,
@@ -43,7 +42,7 @@ returns g c =
         writes_back = tt;
         pair = drop-first (entry_front now) (pairs_of s) ∙ pair;
         writes = λ w. writes-peeked now _ _ w pair
-            (stands-written g.K.Ord.cmp g.met.K.Ord.total s tree now.first c.in-Some.at c.in-Some.is (entry_front now) now.first_stands _ _ w
+            (stands-written s now.first c.in-Some.at c.in-Some.is (entry_front now) now.first_stands _ _ w
             c.pair_mut.ensures.pair (c.pair_mut.ensures.exchanged w));
       },
     )

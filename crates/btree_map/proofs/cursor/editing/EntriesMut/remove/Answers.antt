@@ -10,7 +10,7 @@ use Rattle.btree_map.proofs.cursor.editing.EntriesMut.remove.Goals as goal
 pub returns-in_default-clause-none : goal.returns-in_default-clause-none
 returns-in_default-clause-none g c =
     let now = c.args.self.now in
-    past-empty g.K.Ord.cmp g.met.K.Ord.total now.map.now c.tell_well_formed.ensures.well_formed now.first (entry_front now) now.first_stands c.in_default.is
+    past-empty now.map.now now.first (entry_front now) now.first_stands c.in_default.is
 
 pub returns-in_default-clause-unchanged : goal.returns-in_default-clause-unchanged
 returns-in_default-clause-unchanged g c = same_editing c.args.self.now.map _ _ _ _ _ _ refl refl refl _ _ _ _
@@ -18,24 +18,23 @@ returns-in_default-clause-unchanged g c = same_editing c.args.self.now.map _ _ _
 pub remove_at-requires : goal.remove_at-requires
 remove_at-requires g c =
     let now = c.args.self.now in
-    at-valid g.K.Ord.cmp g.met.K.Ord.total now.map.now c.tell_well_formed.ensures.well_formed now.first (entry_front now) now.first_stands c.in-Some.at c.in-Some.is
+    at-valid now.map.now now.first (entry_front now) now.first_stands c.in-Some.at c.in-Some.is
 
 pub unreachable-requires : goal.unreachable-requires
 unreachable-requires g c =
     let now = c.args.self.now in
-    at-there g.K.Ord.cmp g.met.K.Ord.total now.map.now c.tell_well_formed.ensures.well_formed now.first (entry_front now) now.first_stands c.in-Some.at c.in-Some.is
+    at-there now.map.now now.first (entry_front now) now.first_stands c.in-Some.at c.in-Some.is
     c.in_default-remove_at.ensures.vacant
 
-pub invariant_of-self-2 : goal.invariant_of-self-2
-invariant_of-self-2 g c =
+pub invariant_of-self : goal.invariant_of-self
+invariant_of-self g c =
     let now = c.args.self.now in
     let new = c.remove_at.new.self in
     let r = c.in-Some-remove_at.ensures.removed in
-    let tree = c.tell_well_formed.ensures.well_formed in
-    let listed = at-listed g.K.Ord.cmp g.met.K.Ord.total now.map.now tree now.first (entry_front now) now.first_stands c.in-Some.at c.in-Some.is in
-    let next = remove-next g.K.Ord.cmp g.met.K.Ord.total now.map.now new tree (entry_front now) c.in-Some.at c.in-Some-remove_at.after c.in-Some-remove_at.item r listed
+    let listed = at-listed now.map.now now.first (entry_front now) now.first_stands c.in-Some.at c.in-Some.is in
+    let next = remove-next now.map.now new (entry_front now) c.in-Some.at c.in-Some-remove_at.after c.in-Some-remove_at.item r listed
     c.normalize-self.result c.normalize-self.ensures in
-    let low = remove-within g.K.Ord.cmp g.met.K.Ord.total now.map.now new tree (entry_front now) c.in-Some.at c.in-Some-remove_at.after c.in-Some-remove_at.item r listed in
+    let low = remove-within now.map.now new (entry_front now) c.in-Some.at c.in-Some-remove_at.after c.in-Some-remove_at.item r listed in
     let place = index-is (item_addresses_of new) (once g.K.Ord.cmp g.met.K.Ord.total new r.tree) (entry_front now) c.normalize-self.result next low in
     record {
       first_stands = stands-first (item_addresses_of new) c.normalize-self.result (entry_front now) next;
@@ -48,18 +47,17 @@ returns-clause-removed g c =
     let new = c.remove_at.new.self in
     let x = c.in-Some-remove_at.item in
     let r = c.in-Some-remove_at.ensures.removed in
-    let tree = c.tell_well_formed.ensures.well_formed in
-    let listed = at-listed g.K.Ord.cmp g.met.K.Ord.total now.map.now tree now.first (entry_front now) now.first_stands c.in-Some.at c.in-Some.is in
-    let next = remove-next g.K.Ord.cmp g.met.K.Ord.total now.map.now new tree (entry_front now) c.in-Some.at c.in-Some-remove_at.after x r listed
+    let listed = at-listed now.map.now now.first (entry_front now) now.first_stands c.in-Some.at c.in-Some.is in
+    let next = remove-next now.map.now new (entry_front now) c.in-Some.at c.in-Some-remove_at.after x r listed
     c.normalize-self.result c.normalize-self.ensures in
-    let low = remove-within g.K.Ord.cmp g.met.K.Ord.total now.map.now new tree (entry_front now) c.in-Some.at c.in-Some-remove_at.after x r listed in
+    let low = remove-within now.map.now new (entry_front now) c.in-Some.at c.in-Some-remove_at.after x r listed in
     let place : item_index new c.normalize-self.result ≡ entry_front now =
     index-is (item_addresses_of new) (once g.K.Ord.cmp g.met.K.Ord.total new r.tree) (entry_front now) c.normalize-self.result next low in
     record {
       same_map = refl;
       passed = ap (λ n. take n (pairs_of new)) place
-          ∙ remove-passed g.K.Ord.cmp g.met.K.Ord.total now.map.now new tree (entry_front now) c.in-Some.at c.in-Some-remove_at.after x r listed;
-      left = remove-left g.K.Ord.cmp g.met.K.Ord.total now.map.now new tree (entry_front now) c.in-Some.at c.in-Some-remove_at.after x r listed
+          ∙ remove-passed now.map.now new (entry_front now) c.in-Some.at c.in-Some-remove_at.after x r listed;
+      left = remove-left now.map.now new (entry_front now) c.in-Some.at c.in-Some-remove_at.after x r listed
           ∙ ap (λ n. x ∷ drop n (pairs_of new)) (sym place);
       at = c.in-Some.at;
       after = c.in-Some-remove_at.after;
