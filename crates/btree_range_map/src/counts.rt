@@ -1,5 +1,5 @@
 //! How many of some numbers have a value.
-ghost use Rattle.std.specs.Prelude.{◌≡◌};
+ghost use Rattle.std.specs.Prelude.{◌≡◌, ◌-◌, ◌≤◌};
 ghost use Rattle.btree_range_map.specs.Counts.{count_between};
 ghost use Rattle.btree_range_map.specs.Ranges.{AscendFrom};
 
@@ -34,7 +34,8 @@ impl<V: Clone + Eq, C: NodesMut<u64, Span<V>>> RangeMap<V, C> {
     /// Returns how many of the numbers from `start` up to `end`, which is not one of them, have a value. It searches twice, and reads each
     /// range that has one of them.
     pub fn count(&self, start: u64, end: u64) -> u64
-        ensures { result ≡ count_between self.now.ranges start end }
+        ensures value { result ≡ count_between self.now.ranges start end }
+        ensures most { result ≤ end - start }
     {
         count_in(self.overlapping(start, end), start, end)
     }

@@ -1,21 +1,15 @@
 -- Counts of the numbers of ranges, one range after the other.
 use Rattle.btree_range_set.proofs.Common.{◌≡◌, ◌≤◌, ◌<◌, ◌∙◌, ℕ, suc, max, Bool, true, false, ◌||◌, List, [], ◌∷◌, refl, sym, ap, subst, arith, within-from, within-high, within-low, AreRunsFrom, has_number, is_within, ranges_meeting}
 use Rattle.std.specs.Prelude.{◌+◌, ◌-◌, min}
-use Rattle.btree_range_set.specs.CallerLaws.{has-meeting}
+use Rattle.btree_range_set.specs.CallerLaws.{has-meeting, within-not}
 use Rattle.btree_range_set.specs.Counts.{count_between, count_from}
 use Rattle.btree_range_set.specs.CountLaws.{count-all, count-none, count-same, count-split}
-
-outside : (r : ℕ × ℕ) (n : ℕ) → (is_within r n ≡ true → ⊥) → is_within r n ≡ false
-outside r n out = by (is_within r n) out where
-  by : (b : Bool) → (b ≡ true → ⊥) → b ≡ false
-  by true never = absurd (never refl)
-  by false never = refl
 
 -- the ranges have no number below the first
 none-below : (low : ℕ) (xs : List (ℕ × ℕ)) → AreRunsFrom low xs → (n : ℕ) → n < low → has_number xs n ≡ false
 none-below low [] runs n lt = refl
 none-below low (x ∷ xs) runs n lt =
-    let here : is_within x n ≡ false = outside x n (λ is. let from = within-low x n is in let at = runs.0 in omega arith) in
+    let here : is_within x n ≡ false = within-not x n (λ is. let from = within-low x n is in let at = runs.0 in omega arith) in
     let rest : has_number xs n ≡ false = none-below (suc x.1) xs runs.2 n (let at = runs.0 in let some = runs.1 in omega arith) in
     rw (here, rest) refl
 
@@ -26,7 +20,7 @@ module _ (r : ℕ × ℕ) (rest : List (ℕ × ℕ)) (from end : ℕ) where
 
   -- a number that is not in the range
   not-here : (n : ℕ) → (is_within r n ≡ true → ⊥) → both n ≡ has_number rest n
-  not-here n out = ap (λ (b : Bool). b || has_number rest n) (outside r n out)
+  not-here n out = ap (λ (b : Bool). b || has_number rest n) (within-not r n out)
 
   -- the range has none of them
   pub count-skips : min r.1 end ≤ max r.0 from → count_between (r ∷ rest) from end ≡ count_between rest from end

@@ -22,6 +22,13 @@ within-low r n is = leb-true r.0 n (and_parts (nat_le r.0 n) (nat_lt n r.1) is).
 pub within-high : (r : ℕ × ℕ) (n : ℕ) → is_within r n ≡ true → n < r.1
 within-high r n is = ltb-true n r.1 (and_parts (nat_le r.0 n) (nat_lt n r.1) is).1
 
+-- a number that cannot be within a range is not
+pub within-not : (r : ℕ × ℕ) (n : ℕ) → (is_within r n ≡ true → ⊥) → is_within r n ≡ false
+within-not r n out = by (is_within r n) out where
+  by : (b : Bool) → (b ≡ true → ⊥) → b ≡ false
+  by true never = absurd (never refl)
+  by false never = refl
+
 -- ---- the ranges that meet some numbers
 -- of these numbers, the set has those that the ranges have
 pub has-meeting : (s e n : ℕ) (xs : List (ℕ × ℕ)) → is_within (s, e) n ≡ true → has_number (ranges_meeting s e xs) n ≡ has_number xs n

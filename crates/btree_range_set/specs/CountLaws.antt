@@ -1,6 +1,8 @@
 -- What a count of numbers is, from which of them pass the test.
-use Rattle.std.proofs.Common.{◌≡◌, ◌≤◌, ◌<◌, ◌+◌, ℕ, zero, suc, Bool, true, false, cond, refl, ap, arith}
+use Rattle.std.proofs.Common.{◌≡◌, ◌≤◌, ◌<◌, ◌+◌, ◌-◌, ◌∙◌, ◌||◌, ℕ, zero, suc, Bool, true, false, cond, refl, ap, arith}
+use Rattle.btree_range_set.specs.CallerLaws.{within-from, within-high, within-low, within-not}
 use Rattle.btree_range_set.specs.Counts.{count_from}
+use Rattle.btree_range_set.specs.Ranges.{is_within}
 
 abbrev one : Bool → ℕ
 one b = cond b 1 0
@@ -50,3 +52,40 @@ count-same test other start (suc count) same =
     let here : one (test start) ≡ one (other start) = ap one (same start (omega arith) (omega arith)) in
     let rest = count-same test other (suc start) count (λ n low high. same n (omega arith) (omega arith)) in
     omega (arith, here, rest)
+
+-- if the `size` numbers from `at` on did not pass and do now, and the others are as they were, there are so many more
+pub count-added : (old new : ℕ → Bool) (start count at size : ℕ) → start ≤ at → at + size ≤ start + count
+    → ((n : ℕ) → is_within (at, at + size) n ≡ true → old n ≡ false) → ((n : ℕ) → new n ≡ (old n || is_within (at, at + size) n))
+    → count_from new start count ≡ count_from old start count + size
+count-added old new start count at size from to free is =
+    let first = at - start in
+    let more = count - (first + size) in
+    let parts : count ≡ first + (size + more) = omega arith in
+    let at_run : start + first ≡ at = omega arith in
+    let before : count_from new start first ≡ count_from old start first = count-same new old start first (λ n low high. is n ∙ or_false (old n) (is_within (at, at + size) n) (below n (omega arith))) in
+    let none : count_from old at size ≡ 0 = count-none old at size (λ n low high. free n (within-from (at, at + size) n low high)) in
+    let all : count_from new at size ≡ size = count-all new at size (λ n low high. is n ∙ ap (λ (b : Bool). old n || b) (within-from (at, at + size) n low high) ∙ or_true (old n)) in
+    let after : count_from new (at + size) more ≡ count_from old (at + size) more = count-same new old (at + size) more (λ n low high. is n ∙ or_false (old n) (is_within (at, at + size) n) (above n (omega arith))) in
+    let of_new : count_from new start count ≡ count_from new start first + (count_from new at size + count_from new (at + size) more) = split new first more parts at_run in
+    let of_old : count_from old start count ≡ count_from old start first + (count_from old at size + count_from old (at + size) more) = split old first more parts at_run in
+    omega (arith, before, none, all, after, of_new, of_old)
+  where
+    or_false : (a b : Bool) → b ≡ false → (a || b) ≡ a
+    or_false true b fails = refl
+    or_false false b fails = fails
+
+    or_true : (a : Bool) → (a || true) ≡ true
+    or_true true = refl
+    or_true false = refl
+
+    below : (n : ℕ) → n < at → is_within (at, at + size) n ≡ false
+    below n lt = within-not (at, at + size) n (λ is. let low = within-low (at, at + size) n is in omega arith)
+
+    above : (n : ℕ) → at + size ≤ n → is_within (at, at + size) n ≡ false
+    above n le = within-not (at, at + size) n (λ is. let high = within-high (at, at + size) n is in omega arith)
+
+    split : (test : ℕ → Bool) (first more : ℕ) → count ≡ first + (size + more) → start + first ≡ at → count_from test start count ≡ count_from test start first + (count_from test at size + count_from test (at + size) more)
+    split test first more parts at_run =
+        let one : count_from test start (first + (size + more)) ≡ count_from test start first + count_from test (start + first) (size + more) = count-split test start first (size + more) in
+        let two : count_from test at (size + more) ≡ count_from test at size + count_from test (at + size) more = count-split test at size more in
+        ap (count_from test start) parts ∙ one ∙ rw (at_run, two) refl

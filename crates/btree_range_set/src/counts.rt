@@ -1,5 +1,5 @@
 //! How many of some numbers are in a set.
-ghost use Rattle.std.specs.Prelude.{◌≡◌};
+ghost use Rattle.std.specs.Prelude.{◌≡◌, ◌-◌, ◌≤◌};
 ghost use Rattle.btree_range_set.specs.Counts.{count_between};
 ghost use Rattle.btree_range_set.specs.Ranges.{AreRuns};
 
@@ -30,7 +30,8 @@ impl<C: NodesMut<u64, u64>> RangeSet<C> {
     /// Returns how many of the numbers from `start` up to `end`, which is not one of them, are in the set. It searches twice, and reads each
     /// range that has one of them.
     pub fn count(&self, start: u64, end: u64) -> u64
-        ensures { result ≡ count_between self.now.ranges start end }
+        ensures value { result ≡ count_between self.now.ranges start end }
+        ensures most { result ≤ end - start }
     {
         count_in(self.overlapping(start, end), start, end)
     }
