@@ -52,9 +52,12 @@ def listed_files(folder):
 
 
 def passed_on():
-    """The name under which `btree_slab` passes a file on, by the crate and the file."""
-    found = PASSED_ON.findall(read("crates/btree_slab/specs/Lib.antt"))
-    return {(crate, module): name or module.split(".")[-1] for crate, module, name in found}
+    """The name under which `btree_slab` or `btree_save` passes a file on, by the crate and the file."""
+    names = {}
+    for library in ("btree_save", "btree_slab"):
+        for crate, module, name in PASSED_ON.findall(read(f"crates/{library}/specs/Lib.antt")):
+            names[crate, module] = f"{library}.specs.{name or module.split('.')[-1]}"
+    return names
 
 
 def comment_above(lines, at):
@@ -96,6 +99,47 @@ def explicit(text):
         depth -= sign == "}"
     parts = [it for it in re.sub(r"\s+", " ", kept).strip().split(" → ") if it.strip()]
     return " → ".join(it.strip().removeprefix("→ ") for it in parts).replace(" )", ")").replace("(Unit)", "Unit")
+
+
+def parameters(lines, at):
+    """The explicit parameters of the modules without a name that a line stands in."""
+    modules = []
+    for here, line in enumerate(lines[: at + 1]):
+        indent = len(line) - len(line.lstrip())
+        if line.strip() and not line.strip().startswith("--"):
+            modules = [it for it in modules if it[0] < indent]
+        if line.strip().startswith("module _"):
+            text, to = line.strip(), here
+            while not text.endswith("where"):
+                to += 1
+                text += " " + lines[to].strip()
+            modules.append((indent, explicit(text.removeprefix("module _").removesuffix("where"))))
+    return " ".join(it[1] for it in modules if it[1])
+
+
+def shortened(text):
+    """A list of parameters, or a type, as the pages print it."""
+    return re.sub(r"\(([\w ]+) : ((?:[^()]|\([^()]*\))*)\)", usual, SHORTER.sub("", text))
+
+
+def fields_of(path, word):
+    """The fields of a record, each with its type."""
+    lines, found = read(path).splitlines(), []
+    at = next((at for at, line in enumerate(lines) if re.match(rf" *pub record {re.escape(word)}(?: |$)", line)), None)
+    for line in lines[at + 1 :] if at is not None else []:
+        indent = len(lines[at]) - len(lines[at].lstrip())
+        if not line.strip() or len(line) - len(line.lstrip()) <= indent:
+            if line.strip():
+                break
+            continue
+        field = re.match(r" *pub (\w+) : (.*)$", line)
+        if field:
+            found.append([field.group(1), field.group(2)])
+        elif found and not line.strip().startswith("--") and len(line) - len(line.lstrip()) > indent + 2:
+            found[-1][1] += " " + line.strip()
+        elif found and not line.strip().startswith("--"):
+            break
+    return [f"{name} : {SHORTER.sub('', explicit(of))}" for name, of in found]
 
 
 def usual(binder):

@@ -79,3 +79,6 @@ returns-then-span-last-clause-cause g c =
     refused-two c.split.result _ _ _ _
     (enter-cuts c.args.map.now c.place_for-at.result c.args.start c.args.span c.place_for-at.ensures c.requires.runs c.requires.some c.in-Some.before _
     c.in-Some.ensures c.pair_at.ensures differ (omega (arith, past))) c.split.ensures.cause
+
+pub returns-then-span-last-clause-assigned : goal.returns-then-span-last-clause-assigned
+returns-then-span-last-clause-assigned g c = c.split.ensures.assigned
