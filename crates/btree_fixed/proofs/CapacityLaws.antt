@@ -1,7 +1,7 @@
 -- The laws of the exact refusal, for callers of the map itself. The premises are clauses of a call, and a bound on the
 -- nodes that are held afterwards, which is the clause `can_hold` of `node_count`.
 -- By key: `insert-exact`, `replace-exact`, `update-exact`. At an address: `insert_at-exact`; by a cursor: `cursor-exact`.
--- `taken`, `taken-at`: an insertion that leaves few pairs is taken, whatever it is.
+-- `taken`, `taken-at`: an insertion that leaves few pairs is taken, whatever it is, if the tree is well formed afterwards.
 use Rattle.std.proofs.Common.{◌≡◌, ◌<◌, ◌≤◌, ◌+◌, ◌*◌, ℕ, List, [], ◌∷◌, length, None, Result, Ok, Err, IsSome, IfErr, IfOk, OnOk, refl, subst, arith}
 use Rattle.std.proofs.lemmas.Result.{on_ok_weaker}
 use Rattle.std.specs.Cmp.{IsTotalOrder}
@@ -13,6 +13,7 @@ use Rattle.btree_item.specs.Pairs.{found}
 use Rattle.btree_item.specs.Address.{Address}
 use Rattle.btree_item.specs.declared.refused.Cause.{Cause}
 use Rattle.btree_item.specs.declared.refused.Cause.TheVariants.{Store, Count}
+use Rattle.btree_node.specs.declared.node.Node.{Node}
 use Rattle.btree_laws.specs.TreeState.{TreeState, IsBTree, IsLeafAddressIn, IsPlaceIn, nodes_needed, pairs_of}
 use Rattle.btree_raw.specs.Claimed.{AreClaims, CanHoldMore, EMPTY, MayRefuseOneOf, with_claims}
 use Rattle.btree_raw.specs.Insertion.{IsRefused}
@@ -78,6 +79,12 @@ few-fit cmp s capacity a tree at few exceeds =
 below-limit : {K V : Type 0} (cmp : K → K → Ordering) (s : TreeState K V) → IsBTree cmp s → length (pairs_of s) < s.kept.limit → IsBelowLimit s
 below-limit cmp s tree below = let counted = tree.counted in omega arith
 
+-- a refusal changes no node, so the tree that it leaves was there before
+tree-before : {K V : Type 0} (cmp : K → K → Ordering) (old new : TreeState K V) (MayRefuse : Content (Node K V) → Type 0) (leaf : ℕ) (cause : Cause)
+    → IsRefused MayRefuse leaf old new cause → IsBTree cmp new → IsBTree cmp old
+tree-before cmp old new MayRefuse leaf Store refused tree = subst (IsBTree cmp) refused.0 tree
+tree-before cmp old new MayRefuse leaf Count refused tree = subst (IsBTree cmp) refused.0 tree
+
 -- the nodes fit at the gap of a key
 pub record FitsAtGap {K V : Type 0} (cmp : K → K → Ordering) (k : K) (s : TreeState K V) (capacity : ℕ) : Type 0 where
   pub gap : Address
@@ -106,11 +113,12 @@ module _ {K V X E : Type 0} (cmp : K → K → Ordering) (k : K) (old new : Tree
   }
 
   -- an insertion or update by key that leaves few pairs is taken
-  pub taken : IsBTree cmp old → (result : Result X E) → RefusedByKey result → TakesFew old capacity result
+  pub taken : IsBTree cmp new → (result : Result X E) → RefusedByKey result → TakesFew old capacity result
   taken tree (Ok x) refused = λ few below. refl
   taken tree (Err e) refused = λ few below.
-      absurd (few-fit cmp old capacity refused.gap tree refused.is_gap.in_leaf few
-      (refused-exceeds old new capacity refused.gap.id (cause_of e) refused.refused (below-limit cmp old tree below)))
+      let before = tree-before cmp old new (HoldsAll capacity) refused.gap.id (cause_of e) refused.refused tree in
+      absurd (few-fit cmp old capacity refused.gap before refused.is_gap.in_leaf few
+      (refused-exceeds old new capacity refused.gap.id (cause_of e) refused.refused (below-limit cmp old before below)))
 
   module _ (result : Result X E) (refused : RefusedByKey result) where
     -- `insert`, and an insertion by way of an entry
@@ -154,8 +162,9 @@ module _ {K V E : Type 0} (cmp : K → K → Ordering) (old new : TreeState K V)
   }
 
   -- one that leaves few pairs is taken
-  pub taken-at : {X : Type 0} → IsBTree cmp old → (result : Result X E) → RefusedAt result → TakesFew old capacity result
+  pub taken-at : {X : Type 0} → IsBTree cmp new → (result : Result X E) → RefusedAt result → TakesFew old capacity result
   taken-at tree (Ok x) refused = λ few below. refl
   taken-at tree (Err e) refused = λ few below.
-      absurd (few-fit cmp old capacity refused.leaf tree refused.leaf_for.in_leaf few
-      (refused-exceeds old new capacity refused.leaf.id (cause_of e) refused.refused (below-limit cmp old tree below)))
+      let before = tree-before cmp old new (HoldsAll capacity) refused.leaf.id (cause_of e) refused.refused tree in
+      absurd (few-fit cmp old capacity refused.leaf before refused.leaf_for.in_leaf few
+      (refused-exceeds old new capacity refused.leaf.id (cause_of e) refused.refused (below-limit cmp old before below)))

@@ -139,4 +139,4 @@ module _ {K V C O : Type 0} {g : ord.Ghosts K} {g' : eq.Ghosts K} {g'' : partial
   pub cursor-taken : {X : Type 0} (result : Result X E) → RefusedCursor result → TakesFew old.map.now capacity result
   cursor-taken (Ok y) refused = λ few below. refl
   cursor-taken {X} (Err e) refused =
-      taken-at g.cmp old.map.now new.map.now refused.gap capacity cause_of {X = X} tree (Err e) (refused-at (cause_of e) refused)
+      taken-at g.cmp old.map.now new.map.now refused.gap capacity cause_of {X = X} refused.tree (Err e) (refused-at (cause_of e) refused)

@@ -68,8 +68,8 @@ module _ {T X E : Type 0} (cmp : T → T → Ordering) (x : T) (old new : SetSta
         (absent-key cmp old there x absent) (tree-below cmp old there below)
 
     -- an insertion that leaves few elements is taken
-    pub taken-element : TakesFewElements old capacity result
-    taken-element = λ few below.
+    pub taken-element : IsInTree cmp new → TakesFewElements old capacity result
+    taken-element after = λ few below.
         let same = same-length cmp old there in
         let limit = same-limit cmp old there in
-        taken cmp x old.tree new.tree capacity cause_of there.tree result (refused-key result refused) (omega arith) (omega arith)
+        taken cmp x old.tree new.tree capacity cause_of after.tree result (refused-key result refused) (omega arith) (omega arith)

@@ -6,7 +6,6 @@ ghost use Rattle.btree_ext.specs.Insert.{IsRefusedAtGap};
 ghost use Rattle.btree_fixed.specs.Capacity.{HoldsAll, HoldsAtMost, InsertsByEntry, KeepsPresent, RefusesExactly, TakesFew};
 
 use crate::{FixedMap, tell_held};
-use btree_ext::BTreeExt;
 use btree_item::Refused;
 use btree_map::{BTreeMap, Entry};
 use btree_node::NodesMut;
@@ -59,7 +58,6 @@ pub fn insert_vacant<K: Ord + Drop, V: Drop, const N: usize>(
     ensures cause { IfErr result (λ r.
         IsRefusedAtGap K.cmp key map.old map.new (HoldsAll N) r.cause) }
 {
-    map.tell_well_formed();
     let result = insert_by_vacant(map, key, value);
     tell_held(map);
     result
@@ -105,7 +103,6 @@ pub fn or_insert<K: Ord + Drop, V: Drop, const N: usize>(
     ensures cause { IfErr result (λ r.
         IsRefusedAtGap K.cmp key map.old map.new (HoldsAll N) r.cause) }
 {
-    map.tell_well_formed();
     let result = insert_by_entry(map, key, default);
     tell_held(map);
     result

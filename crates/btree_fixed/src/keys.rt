@@ -9,7 +9,7 @@ ghost use Rattle.btree_ext.specs.Update.{RunsByKey};
 ghost use Rattle.btree_fixed.specs.Capacity.{HoldsAll, HoldsAtMost, RefusesExactly, TakesFew};
 
 use crate::{FixedMap, tell_held};
-use btree_ext::{BTreeExt, BTreeExtMut};
+use btree_ext::BTreeExtMut;
 use btree_item::{Refused, UpdateRefused};
 
 /// Inserts a pair, as `BTreeMap::insert` does.
@@ -30,7 +30,6 @@ pub fn insert<K: Ord + Drop, V: Drop, const N: usize>(
     ensures cause { IfErr result (λ r.
         IsRefusedAtGap K.cmp key map.old map.new (HoldsAll N) r.cause) }
 {
-    map.tell_well_formed();
     let result = map.insert(key, value);
     tell_held(map);
     result
@@ -54,7 +53,6 @@ pub fn replace<K: Ord + Drop, V: Drop, const N: usize>(
     ensures cause { IfErr result (λ r.
         IsRefusedAtGap K.cmp key map.old map.new (HoldsAll N) r.cause) }
 {
-    map.tell_well_formed();
     let result = map.replace(key, value);
     tell_held(map);
     result
@@ -79,7 +77,6 @@ pub fn update<K: Ord + Drop, V: Drop, T, F: FnOnce(Option<V>) -> (Option<V>, T),
     ensures cause { IfErr result (λ r.
         IsRefusedAtGap K.cmp key map.old map.new (HoldsAll N) r.cause) }
 {
-    map.tell_well_formed();
     let result = map.update(key, action);
     tell_held(map);
     result
@@ -107,7 +104,6 @@ pub fn update_in<K: Ord + Drop, V: Drop, T, F: FnOnce(Option<V>) -> (Option<V>, 
     ensures cause { IfErr result (λ r.
         IsRefusedAtGap K.cmp key map.old map.new (HoldsAll N) r.cause) }
 {
-    map.tell_well_formed();
     let result = map.update_in(id, key, action);
     tell_held(map);
     result

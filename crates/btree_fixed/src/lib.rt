@@ -5,6 +5,7 @@
 //! takes every one up to the 3N-th (`few`), and it holds at most `N` nodes (`held`).
 #![tactic(auto)]
 
+ghost use Rattle.btree_laws.specs.TreeState.{IsBTree};
 ghost use Rattle.btree_fixed.specs.Capacity.{HoldsAtMost};
 
 mod entries;
@@ -32,9 +33,11 @@ pub type FixedMap<K, V, const N: usize> = BTreeMap<K, V, FixedSlab<Node<K, V>, N
 /// A set with its nodes in `N` places inside itself, with no memory from an allocator. A move copies all of them.
 pub type FixedSet<T, const N: usize> = BTreeSet<T, FixedSlab<Node<T, ()>, N>>;
 
-// Gives the prover the fact that the table holds its nodes. It reads one number.
+// Gives the prover the facts that the table holds its nodes and that they are well formed. It reads one number.
 fn tell_held<K: Ord, V, const N: usize>(map: &FixedMap<K, V, N>)
-    ensures { HoldsAtMost N map.now.nodes }
+    ensures held { HoldsAtMost N map.now.nodes }
+    ensures tree { IsBTree K.cmp map.now }
 {
     let _count = map.node_count();
+    map.tell_well_formed();
 }

@@ -31,7 +31,6 @@ pub fn insert_at<K: Ord + Drop, V: Drop, const N: usize>(
     ensures returned { IfErr result (λ r. (r.key, r.value) ≡ item) }
     ensures refused { IfErr result (λ r. IsRefusedAt map.old map.new addr (HoldsAll N) r.cause) }
 {
-    map.tell_well_formed();
     let result = map.insert_at(addr, item);
     tell_held(map);
     result
@@ -58,7 +57,6 @@ pub fn insert_exactly_at<K: Ord + Drop, V: Drop, const N: usize>(
     ensures returned { IfErr result (λ r. (r.key, r.value) ≡ item) }
     ensures refused { IfErr result (λ r. IsRefusedAt map.old map.new addr (HoldsAll N) r.cause) }
 {
-    map.tell_well_formed();
     let result = map.insert_exactly_at(addr, item);
     tell_held(map);
     result

@@ -5,7 +5,6 @@ ghost use Rattle.btree_map.specs.Spans.{IsFirstListed, item_index};
 
 use crate::BTreeMap;
 use crate::cursor::pairs::address_after;
-use btree_ext::BTreeExt;
 use btree_item::Address;
 use btree_node::NodesMut;
 

@@ -7,7 +7,7 @@ ghost use Rattle.btree_map.specs.Lists.{LendsPairAt, last_of};
 
 use crate::cursor::RangeMut;
 use crate::cursor::pairs::{address_after, address_before};
-use btree_ext::{BTreeExt, BTreeExtMut};
+use btree_ext::BTreeExtMut;
 use btree_item::Address;
 use btree_node::NodesMut;
 

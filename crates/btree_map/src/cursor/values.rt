@@ -6,7 +6,7 @@ ghost use Rattle.btree_map.specs.CursorLent.{lends_first_value, lends_next_value
 
 use crate::cursor::ValuesMut;
 use crate::cursor::pairs::address_after;
-use btree_ext::{BTreeExt, BTreeExtMut};
+use btree_ext::BTreeExtMut;
 use btree_item::Address;
 use btree_node::NodesMut;
 

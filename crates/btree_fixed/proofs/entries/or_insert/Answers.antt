@@ -3,10 +3,10 @@ use Rattle.btree_fixed.proofs.EntryLaws.{by_entry-exact}
 use Rattle.btree_fixed.proofs.entries.or_insert.Goals as goal
 
 pub returns-clause-exact : goal.returns-clause-exact
-returns-clause-exact g c = by_entry-exact _ _ _ _ _ (λ e. e.cause) _ c.insert_by_entry-result.ensures.inserted c.insert_by_entry-result.ensures.cause c.tell_held.ensures
+returns-clause-exact g c = by_entry-exact _ _ _ _ _ (λ e. e.cause) _ c.insert_by_entry-result.ensures.inserted c.insert_by_entry-result.ensures.cause c.tell_held.ensures.held
 
 pub returns-clause-few : goal.returns-clause-few
-returns-clause-few g c = taken _ _ _ _ _ (λ e. e.cause) c.tell_well_formed.ensures.well_formed _ c.insert_by_entry-result.ensures.cause
+returns-clause-few g c = taken _ _ _ _ _ (λ e. e.cause) c.tell_held.ensures.tree _ c.insert_by_entry-result.ensures.cause
 
 pub returns-clause-held : goal.returns-clause-held
-returns-clause-held g c = c.tell_held.ensures
+returns-clause-held g c = c.tell_held.ensures.held

@@ -20,7 +20,7 @@ returns-clause-exact g c =
     let same = same-map old c.insert-result.new.self (λ e. e.cause) _ c.insert-result.result c.insert-result.ensures.inserted c.insert-result.ensures.refused in
     let final = c.map-1.given.1 (sym (same ∙ k.same_map)) in
     let tree = subst (IsBTree g.K.Ord.cmp) (sym k.unchanged) c.tell_well_formed.ensures.well_formed in
-    let held = subst (λ (t : TreeState _ _). map.len t.nodes ≤ g.row.N) final c.tell_held.ensures in
+    let held = subst (λ (t : TreeState _ _). map.len t.nodes ≤ g.row.N) final c.tell_held.ensures.held in
     let exact = cursor-exact old c.insert-result.new.self g.row.N (λ e. e.cause) g.met.K.Ord.total tree refl _ c.insert-result.result
     c.insert-result.ensures.inserted c.insert-result.ensures.refused held in
     let place = front-passed old g.met.K.Ord.total tree ∙ ap length k.passed in
@@ -35,7 +35,7 @@ returns-clause-few g c =
     subst (λ (t : TreeState _ _). TakesFew t g.row.N c.insert-result.result) c.entries_mut_from-entries.ensures.unchanged few
 
 pub returns-clause-held : goal.returns-clause-held
-returns-clause-held g c = c.tell_held.ensures
+returns-clause-held g c = c.tell_held.ensures.held
 
 pub returns-clause-inserted : goal.returns-clause-inserted
 returns-clause-inserted g c =
