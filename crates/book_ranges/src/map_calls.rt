@@ -94,6 +94,7 @@ fn by_numbers<C: NodesMut<u64, Span<u64>>>(
         "remove" => put_removal(map.remove(start, end), reply)?,
         "overlaps" => reply.truth(map.overlaps(start, end))?,
         "gaps" => put_ranges(map.gaps(start, end), reply)?,
+        "count" => reply.number(map.count(start, end))?,
         _ => return Ok(false),
     }
     Ok(true)
@@ -133,7 +134,7 @@ fn by_value<C: NodesMut<u64, Span<u64>>>(
     Ok(true)
 }
 
-// Serves a call with two numbers, and with ends or a value.
+// Serves a call with two numbers, and with ends, a size or a value.
 fn between<C: NodesMut<u64, Span<u64>>>(
     map: &mut Map<C>,
     verb: &str,
@@ -147,6 +148,10 @@ fn between<C: NodesMut<u64, Span<u64>>>(
         return Ok(true);
     }
     match number(rest) {
+        Some(size) if verb == "first_fit" => {
+            reply.value(map.first_fit(start, end, size))?;
+            Ok(true)
+        }
         Some(value) => by_value(map, verb, start, end, value, reply),
         None if rest == "" => by_numbers(map, verb, start, end, reply),
         None => Ok(false),

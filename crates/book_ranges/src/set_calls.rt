@@ -53,9 +53,33 @@ fn by_numbers<C: NodesMut<u64, u64>>(
         "remove" => put_outcome(set.remove(start, end), reply)?,
         "overlaps" => reply.truth(set.overlaps(start, end))?,
         "gaps" => put_ranges(set.gaps(start, end), reply)?,
+        "count" => reply.number(set.count(start, end))?,
         _ => return Ok(false),
     }
     Ok(true)
+}
+
+// Serves a call with two numbers, and with ends or a size.
+fn between<C: NodesMut<u64, u64>>(
+    set: &mut RangeSet<C>,
+    verb: &str,
+    start: u64,
+    end: u64,
+    rest: &str,
+    reply: &mut Reply,
+) -> Result<bool, AllocError> {
+    if verb == "overlapping" {
+        walk_ranges(set.overlapping(start, end), rest, reply)?;
+        return Ok(true);
+    }
+    match number(rest) {
+        Some(size) if verb == "first_fit" => {
+            reply.value(set.first_fit(start, end, size))?;
+            Ok(true)
+        }
+        None if rest == "" => by_numbers(set, verb, start, end, reply),
+        _ => Ok(false),
+    }
 }
 
 /// Serves a call of a set of ranges. Returns whether the words are one.
@@ -73,14 +97,10 @@ pub(crate) fn serve_set<C: ClearNodes<u64, u64>>(
         return Ok(true);
     }
     let (first, rest) = word(rest);
-    let (second, ends) = word(rest);
+    let (second, rest) = word(rest);
     match (number(first), number(second)) {
         (Some(number), None) => by_number(set, verb, number, reply),
-        (Some(start), Some(end)) if verb == "overlapping" => {
-            walk_ranges(set.overlapping(start, end), ends, reply)?;
-            Ok(true)
-        }
-        (Some(start), Some(end)) if ends == "" => by_numbers(set, verb, start, end, reply),
+        (Some(start), Some(end)) => between(set, verb, start, end, rest, reply),
         _ => Ok(false),
     }
 }
