@@ -1,21 +1,14 @@
-//! Values that own memory: texts, of which an allocator refuses a clone.
+//! A value that owns memory.
 ghost use Rattle.std.specs.Cmp.Lexicographic.{nat_list_eq_equiv, pointwise};
 ghost use Rattle.std.specs.Cmp.{partial_equiv_from_equiv};
 ghost use Rattle.std.specs.Prelude.{◌≡◌, nat_eq};
 
-use crate::asserts::{assert_same, assert_true};
-use btree_node::{Node, NodesMut};
-use btree_range_map::{RangeCause, RangeMap, Span};
-use btree_store::SlabStore;
 use std::alloc::{AllocError, Allocator, Global};
 use std::marker::Model;
-use std::process::Abort;
-use std::test::Fail;
-use test_support::Refusing;
 
-// A text that owns its memory. Contracts see its bytes, and not its capacity, so that it is equal to a clone.
+/// A text. Contracts see its bytes, and not its capacity, so that it is equal to a clone.
 #[derive(Drop)]
-struct Text<A: Allocator> {
+pub(crate) struct Text<A: Allocator = Global> {
     text: String<A>,
 }
 
@@ -50,50 +43,23 @@ impl<A: Allocator> Eq for Text<A> {
     ghost laws = { nat_list_eq_equiv };
 }
 
-type Owned<'a> = Text<&'a Refusing<Global>>;
+impl<A: Allocator> Text<A> {
+    /// Returns a text that owns its letters.
+    pub(crate) fn of(alloc: A, letters: &str) -> Result<Text<A>, AllocError> {
+        let text = String::from_str(alloc, letters)?;
+        Ok(Text { text })
+    }
 
-// Returns a text.
-fn owned<A: Allocator>(alloc: A, text: &str) -> Result<Text<A>, AllocError> {
-    let text = String::from_str(alloc, text)?;
-    Ok(Text { text })
-}
-
-// Checks the text that a map has for a number.
-fn check_text<A: Allocator>(rt: &impl Abort, found: Option<&Text<A>>, expected: &str) {
-    match found {
-        Some(found) => assert_same(rt, found.text.as_str(), expected),
-        None => panic!(rt; "no text"),
+    /// Returns its letters.
+    pub(crate) fn letters(&self) -> &str {
+        self.text.as_str()
     }
 }
 
-// An insertion into a range is refused where a clone of its text finds no memory. The same call is granted afterwards.
-fn refuse_one<'a, C: NodesMut<u64, Span<Owned<'a>>> + Drop>(
-    rt: &impl Abort,
-    alloc: &'a Refusing<Global>,
-    origin: C::Origin,
-) -> Result<(), Fail> {
-    let mut map: RangeMap<Owned<'a>, C> = RangeMap::new(origin);
-    let old = owned(alloc, "old")?;
-    let new = owned(alloc, "new")?;
-    assert_true(rt, map.insert(10, 20, old).is_ok());
-    alloc.refuse(1);
-    let refused = match map.insert(12, 15, new) {
-        Ok(()) => panic!(rt; "not refused"),
-        Err(refused) => refused,
-    };
-    assert_same(rt, (refused.cause, refused.key), (RangeCause::Clone, 12));
-    assert_same(rt, map.len(), 1);
-    let Span { end, value } = refused.value;
-    assert_true(rt, map.insert(12, end, value).is_ok());
-    assert_same(rt, map.len(), 3);
-    check_text(rt, map.get(11), "old");
-    check_text(rt, map.get(14), "new");
-    check_text(rt, map.get(15), "old");
-    Ok(())
-}
-
-#[test]
-fn clones_texts(rt: HostRuntime) -> Result<(), Fail> {
-    let alloc = Refusing::over(rt.alloc(), 0);
-    refuse_one::<SlabStore<Node<u64, Span<Owned>>>>(&rt, &alloc, rt.alloc())
+/// Returns a text with one more mark at its end, or as much of it as there is memory for.
+pub(crate) fn marked(alloc: Global, text: &Text) -> Text {
+    let mut longer = String::new(alloc);
+    let is_whole = longer.push_str(text.letters()).is_ok() && longer.push('!').is_ok();
+    let _ = is_whole;
+    Text { text: longer }
 }
