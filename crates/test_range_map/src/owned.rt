@@ -1,14 +1,28 @@
 //! Maps whose values own memory.
 use crate::asserts::{assert_same, assert_true};
-use crate::texts::{Text, marked};
+use crate::texts::Text;
 use btree_node::{Node, NodesMut};
 use btree_range_map::{RangeCause, RangeMap, Span};
 use btree_store::SlabStore;
-use std::alloc::{Allocator, Global};
+use std::alloc::Global;
 use std::process::Abort;
-use test_support::Refusing;
 
-type Heap<A> = SlabStore<Node<u64, Span<Text<A>>>>;
+type Heap = SlabStore<Node<u64, Span<Text>>>;
+
+// Returns a text. Of the allocations of its clone one may be refused.
+fn text(rt: &impl Abort, alloc: Global, refuses: u64, letters: &str) -> Text {
+    let mut text = Text::new(alloc, refuses);
+    assert_true(rt, text.push(letters).is_ok());
+    text
+}
+
+// Returns a text with one more mark at its end, or as much of it as there is memory for.
+fn marked(alloc: Global, text: &Text) -> Text {
+    let mut longer = Text::new(alloc, 0);
+    let _ = longer.push(text.letters());
+    let _ = longer.push("!");
+    longer
+}
 
 // Gives some numbers a text.
 fn insert<C: NodesMut<u64, Span<Text>>>(
@@ -19,10 +33,8 @@ fn insert<C: NodesMut<u64, Span<Text>>>(
     end: u64,
     letters: &str,
 ) {
-    match Text::of(alloc, letters) {
-        Ok(text) => assert_true(rt, map.insert(start, end, text).is_ok()),
-        Err(_) => panic!(rt; "no memory"),
-    }
+    let text = text(rt, alloc, 0, letters);
+    assert_true(rt, map.insert(start, end, text).is_ok());
 }
 
 // Checks the ranges of a map, each with its text.
@@ -132,47 +144,33 @@ fn fill<C: NodesMut<u64, Span<Text>> + Drop>(rt: &impl Abort, alloc: Global, ori
 #[test]
 fn holds_texts(rt: HostRuntime) {
     let alloc = rt.alloc();
-    cut::<Heap<Global>>(&rt, alloc, alloc);
-    join::<Heap<Global>>(&rt, alloc, alloc);
-    update::<Heap<Global>>(&rt, alloc, alloc);
-    fill::<Heap<Global>>(&rt, alloc, alloc);
+    cut::<Heap>(&rt, alloc, alloc);
+    join::<Heap>(&rt, alloc, alloc);
+    update::<Heap>(&rt, alloc, alloc);
+    fill::<Heap>(&rt, alloc, alloc);
 }
 
-// Returns a text.
-fn text<A: Allocator + Copy>(rt: &impl Abort, alloc: &A, letters: &str) -> Text<A> {
-    match Text::of(*alloc, letters) {
-        Ok(text) => text,
-        Err(_) => panic!(rt; "no memory"),
-    }
-}
-
-// Where the clone of a text is refused its memory, an insertion into its range is refused, with the text. The same call is granted afterwards.
-fn refuse<A: Allocator + Copy, C: NodesMut<u64, Span<Text<A>>>>(
-    rt: &impl Abort,
-    memory: &Refusing<Global>,
-    alloc: &A,
-    map: &mut RangeMap<Text<A>, C>,
-) {
-    assert_true(rt, map.insert(10, 20, text(rt, alloc, "old")).is_ok());
-    let new = text(rt, alloc, "new");
-    memory.refuse(1);
-    match map.insert(12, 15, new) {
-        Ok(()) => panic!(rt; "not refused"),
-        Err(refused) => {
-            assert_same(rt, (refused.cause, refused.key), (RangeCause::Clone, 12));
-            assert_same(rt, map.len(), 1);
-            let Span { end, value } = refused.value;
-            assert_true(rt, map.insert(12, end, value).is_ok());
-        }
-    }
-    assert_same(rt, map.len(), 3);
+// Where the clone of a text is refused its memory, an insertion into its range is refused, and so is a removal from it. Calls that cut no range
+// in two clone no text, and are granted.
+fn refuse<C: NodesMut<u64, Span<Text>> + Drop>(rt: &impl Abort, alloc: Global, origin: C::Origin) {
+    let mut map: RangeMap<Text, C> = RangeMap::new(origin);
+    let old = text(rt, alloc, 1, "old");
+    assert_true(rt, map.insert(10, 20, old).is_ok());
+    let new = text(rt, alloc, 0, "new");
+    let Err(refused) = map.insert(12, 15, new) else {
+        panic!(rt; "not refused")
+    };
+    check_texts(rt, &map, &[(10, 20, "old")]);
+    assert_same(rt, (refused.cause, refused.key), (RangeCause::Clone, 12));
+    let Span { end, value } = refused.value;
+    assert_same(rt, (end, value.letters()), (15, "new"));
+    assert_true(rt, map.remove(11, 19).is_err());
+    assert_true(rt, map.insert(5, 12, value).is_ok());
+    assert_true(rt, map.remove(18, 30).is_ok());
+    check_texts(rt, &map, &[(5, 12, "new"), (12, 18, "old")]);
 }
 
 #[test]
 fn clone_of_a_text_is_refused(rt: HostRuntime) {
-    let memory = Refusing::over(rt.alloc(), 0);
-    let mut map: RangeMap<Text<&Refusing<Global>>, Heap<&Refusing<Global>>> = RangeMap::new(
-        rt.alloc(),
-    );
-    refuse(&rt, &memory, &&memory, &mut map);
+    refuse::<Heap>(&rt, rt.alloc(), rt.alloc());
 }

@@ -3,16 +3,20 @@ ghost use Rattle.std.specs.Cmp.Lexicographic.{nat_list_eq_equiv, pointwise};
 ghost use Rattle.std.specs.Cmp.{partial_equiv_from_equiv};
 ghost use Rattle.std.specs.Prelude.{◌≡◌, nat_eq};
 
-use std::alloc::{AllocError, Allocator, Global};
+use std::alloc::{AllocError, Global};
 use std::marker::Model;
+use test_support::Refusing;
 
-/// A text. Contracts see its bytes, and not its capacity, so that it is equal to a clone.
+/// A text, of which each clone has memory of its own, that may be refused. Contracts see its bytes alone, so that it is equal to a clone.
 #[derive(Drop)]
-pub(crate) struct Text<A: Allocator = Global> {
-    text: String<A>,
+pub(crate) struct Text {
+    text: String<Refusing<Global>>,
+    alloc: Global,
+    // Which allocation of a clone is refused: 1 is the first one, 0 is none.
+    refuses: u64,
 }
 
-impl<A: Allocator> Model for Text<A> {
+impl Model for Text {
     ghost use Rattle.std.specs.Prelude.{List, string_bytes, ℕ};
 
     ghost Value = { List ℕ };
@@ -20,46 +24,51 @@ impl<A: Allocator> Model for Text<A> {
     ghost view = { λ t. string_bytes t.text };
 }
 
-impl<A: Allocator + Clone> Clone for Text<A> {
+impl Clone for Text {
     ghost is_clone = { λ text copy. copy ≡ text };
 
-    fn clone(&self) -> Result<Text<A>, AllocError> {
-        let text = self.text.clone()?;
-        Ok(Text { text })
+    fn clone(&self) -> Result<Text, AllocError> {
+        let memory = Refusing::over(self.alloc, self.refuses);
+        let text = String::from_str(memory, self.text.as_str())?;
+        Ok(Text {
+            text,
+            alloc: self.alloc,
+            refuses: self.refuses,
+        })
     }
 }
 
-impl<A: Allocator> PartialEq for Text<A> {
+impl PartialEq for Text {
     ghost eq = { pointwise nat_eq };
 
     ghost laws = { partial_equiv_from_equiv nat_list_eq_equiv };
 
-    fn eq(&self, other: &Text<A>) -> bool {
-        self.text == other.text
+    fn eq(&self, other: &Text) -> bool {
+        self.text.as_str() == other.text.as_str()
     }
 }
 
-impl<A: Allocator> Eq for Text<A> {
+impl Eq for Text {
     ghost laws = { nat_list_eq_equiv };
 }
 
-impl<A: Allocator> Text<A> {
-    /// Returns a text that owns its letters.
-    pub(crate) fn of(alloc: A, letters: &str) -> Result<Text<A>, AllocError> {
-        let text = String::from_str(alloc, letters)?;
-        Ok(Text { text })
+impl Text {
+    /// Returns a text without letters. Of the allocations of each clone the one with the number `refuses` is refused, and for 0 none.
+    pub(crate) fn new(alloc: Global, refuses: u64) -> Text {
+        Text {
+            text: String::new(Refusing::over(alloc, 0)),
+            alloc,
+            refuses,
+        }
+    }
+
+    /// Adds letters at its end.
+    pub(crate) fn push(&mut self, letters: &str) -> Result<(), AllocError> {
+        self.text.push_str(letters)
     }
 
     /// Returns its letters.
     pub(crate) fn letters(&self) -> &str {
         self.text.as_str()
     }
-}
-
-/// Returns a text with one more mark at its end, or as much of it as there is memory for.
-pub(crate) fn marked(alloc: Global, text: &Text) -> Text {
-    let mut longer = String::new(alloc);
-    let is_whole = longer.push_str(text.letters()).is_ok() && longer.push('!').is_ok();
-    let _ = is_whole;
-    Text { text: longer }
 }
