@@ -13,6 +13,7 @@ mod things;
 use crate::desk::{Pair, set_out};
 use crate::gates::{Gates, make_gates};
 use crate::stores::{Open, Stores};
+use crate::things::Thing;
 use book_text::{Desk, Desks, Ending, serve};
 use btree_slab::generic::Node;
 use btree_slab::range_map::{RangeMap, Span};
@@ -39,10 +40,9 @@ type OverOdds = Pair<RangeSet<OddSlab<SetNode>>, RangeMap<u64, OddSlab<MapNode>>
 type OverGates = Gates<RangeSet<Gate<SlabStore<SetNode>>>, RangeMap<u64, Gate<SlabStore<MapNode>>>>;
 
 // Over slabs whose nodes and memory are refused.
-type OverRefusing<'m> = Pair<
-    RangeSet<RefusingStore<'m, SlabStore<SetNode, &'m Refusing<Global>>>>,
-    RangeMap<u64, RefusingStore<'m, SlabStore<MapNode, &'m Refusing<Global>>>>,
->;
+type RefusingSet<'m> = RangeSet<RefusingStore<'m, SlabStore<SetNode, &'m Refusing<Global>>>>;
+
+type RefusingMap<'m> = RangeMap<u64, RefusingStore<'m, SlabStore<MapNode, &'m Refusing<Global>>>>;
 
 // Takes no arguments; one that cannot be read is an argument too.
 fn check_arguments(rt: &impl Env) -> Result<(), Ending> {
@@ -62,13 +62,18 @@ fn open_stores(alloc: Global) -> Stores<OverSlabs, OverTables, OverOdds, OverGat
     }
 }
 
-// Serves the lines of standard input on two desks.
-fn serve_desks<P: Desk + Drop, Q: Desk + Drop>(
+// Serves the lines of standard input on two desks, of which the second one has stores from these origins.
+fn serve_desks<P: Desk + Drop, R: Thing + Drop, M: Thing + Drop>(
     rt: &(impl Print + Input + AllocGlobal),
     memory: &Refusing<Global>,
     plain: P,
-    refusing: Q,
-) -> Result<(), Ending> {
+    origins: (R::Origin, M::Origin),
+) -> Result<(), Ending>
+where
+    R::Origin: Copy,
+    M::Origin: Copy,
+{
+    let refusing: Pair<R, M> = set_out(origins);
     let mut desks = Desks {
         plain,
         refusing,
@@ -81,8 +86,13 @@ fn serve_desks<P: Desk + Drop, Q: Desk + Drop>(
 fn run(rt: &(impl Env + Input + Print + AllocGlobal)) -> Result<(), Ending> {
     check_arguments(rt)?;
     let memory = Refusing::over(rt.alloc(), 0);
-    let refusing: OverRefusing<'_> = set_out(((&memory, &memory), (&memory, &memory)));
-    serve_desks(rt, &memory, open_stores(rt.alloc()), refusing)
+    let origin = (&memory, &memory);
+    serve_desks::<Stores<OverSlabs, OverTables, OverOdds, OverGates>, RefusingSet, RefusingMap>(
+        rt,
+        &memory,
+        open_stores(rt.alloc()),
+        (origin, origin),
+    )
 }
 
 fn main(rt: HostRuntime) -> ExitCode {
