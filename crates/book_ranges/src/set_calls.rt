@@ -1,0 +1,106 @@
+//! Calls of a set of ranges.
+use crate::ranges::{put_outcome, put_range, put_ranges, walk_ranges};
+use book_text::{Reply, number, word};
+use btree_slab::range_set::RangeSet;
+use btree_slab::store::{ClearNodes, NodesMut};
+use std::alloc::AllocError;
+
+fn whole<C: ClearNodes<u64, u64>>(
+    set: &mut RangeSet<C>,
+    verb: &str,
+    reply: &mut Reply,
+) -> Result<bool, AllocError> {
+    match verb {
+        "len" => reply.count(set.len())?,
+        "is_empty" => reply.truth(set.is_empty())?,
+        "nodes" => reply.count(set.store().len())?,
+        "list" => put_ranges(set.iter(), reply)?,
+        "debug" => reply.shown(set)?,
+        "first" => put_range(set.first(), reply)?,
+        "last" => put_range(set.last(), reply)?,
+        "clear" => {
+            set.clear();
+            reply.word("ok")?
+        }
+        _ => return Ok(false),
+    }
+    Ok(true)
+}
+
+fn by_number<C: NodesMut<u64, u64>>(
+    set: &RangeSet<C>,
+    verb: &str,
+    number: u64,
+    reply: &mut Reply,
+) -> Result<bool, AllocError> {
+    match verb {
+        "contains" => reply.truth(set.contains(number))?,
+        "get" => put_range(set.get(number), reply)?,
+        _ => return Ok(false),
+    }
+    Ok(true)
+}
+
+fn by_numbers<C: NodesMut<u64, u64>>(
+    set: &mut RangeSet<C>,
+    verb: &str,
+    start: u64,
+    end: u64,
+    reply: &mut Reply,
+) -> Result<bool, AllocError> {
+    match verb {
+        "insert" => put_outcome(set.insert(start, end), reply)?,
+        "remove" => put_outcome(set.remove(start, end), reply)?,
+        "overlaps" => reply.truth(set.overlaps(start, end))?,
+        "gaps" => put_ranges(set.gaps(start, end), reply)?,
+        "count" => reply.number(set.count(start, end))?,
+        _ => return Ok(false),
+    }
+    Ok(true)
+}
+
+// Serves a call with two numbers, and with ends or a size.
+fn between<C: NodesMut<u64, u64>>(
+    set: &mut RangeSet<C>,
+    verb: &str,
+    start: u64,
+    end: u64,
+    rest: &str,
+    reply: &mut Reply,
+) -> Result<bool, AllocError> {
+    if verb == "overlapping" {
+        walk_ranges(set.overlapping(start, end), rest, reply)?;
+        return Ok(true);
+    }
+    match number(rest) {
+        Some(size) if verb == "first_fit" => {
+            reply.value(set.first_fit(start, end, size))?;
+            Ok(true)
+        }
+        None if rest == "" => by_numbers(set, verb, start, end, reply),
+        _ => Ok(false),
+    }
+}
+
+/// Serves a call of a set of ranges. Returns whether the words are one.
+pub(crate) fn serve_set<C: ClearNodes<u64, u64>>(
+    set: &mut RangeSet<C>,
+    words: &str,
+    reply: &mut Reply,
+) -> Result<bool, AllocError> {
+    let (verb, rest) = word(words);
+    if rest == "" {
+        return whole(set, verb, reply);
+    }
+    if verb == "iter" {
+        walk_ranges(set.iter(), rest, reply)?;
+        return Ok(true);
+    }
+    let (first, rest) = word(rest);
+    let (second, rest) = word(rest);
+    match (number(first), number(second)) {
+        (Some(number), None) => by_number(set, verb, number, reply),
+        (Some(start), Some(end)) => between(set, verb, start, end, rest, reply),
+        _ => Ok(false),
+    }
+}

@@ -1,0 +1,176 @@
+//! Maps whose values own memory.
+use crate::asserts::{assert_same, assert_true};
+use crate::texts::Text;
+use btree_node::{Node, NodesMut};
+use btree_range_map::{RangeCause, RangeMap, Span};
+use btree_store::SlabStore;
+use std::alloc::Global;
+use std::process::Abort;
+
+type Heap = SlabStore<Node<u64, Span<Text>>>;
+
+// Returns a text. Of the allocations of its clone one may be refused.
+fn text(rt: &impl Abort, alloc: Global, refuses: u64, letters: &str) -> Text {
+    let mut text = Text::new(alloc, refuses);
+    assert_true(rt, text.push(letters).is_ok());
+    text
+}
+
+// Returns a text with one more mark at its end, or as much of it as there is memory for.
+fn marked(alloc: Global, text: &Text) -> Text {
+    let mut longer = Text::new(alloc, 0);
+    let _ = longer.push(text.letters());
+    let _ = longer.push("!");
+    longer
+}
+
+// Gives some numbers a text.
+fn insert<C: NodesMut<u64, Span<Text>>>(
+    rt: &impl Abort,
+    alloc: Global,
+    map: &mut RangeMap<Text, C>,
+    start: u64,
+    end: u64,
+    letters: &str,
+) {
+    let text = text(rt, alloc, 0, letters);
+    assert_true(rt, map.insert(start, end, text).is_ok());
+}
+
+// Checks the ranges of a map, each with its text.
+fn check_texts<C: NodesMut<u64, Span<Text>>>(
+    rt: &impl Abort,
+    map: &RangeMap<Text, C>,
+    expected: &[(u64, u64, &str)],
+) {
+    let mut ranges = map.iter();
+    for (start, end, letters) in expected.iter().copied() {
+        match ranges.next() {
+            Some((first, span)) => {
+                assert_same(rt, (first, span.end), (start, end));
+                assert_same(rt, span.value.letters(), letters);
+            }
+            None => panic!(rt; "no range"),
+        }
+    }
+    assert_true(rt, ranges.next().is_none());
+}
+
+// Checks the text that a map lends for a number.
+fn check_lent<C: NodesMut<u64, Span<Text>>>(
+    rt: &impl Abort,
+    map: &RangeMap<Text, C>,
+    number: u64,
+    expected: Option<&str>,
+) {
+    let lent = match map.get(number) {
+        Some(text) => Some(text.letters()),
+        None => None,
+    };
+    assert_same(rt, lent, expected);
+}
+
+// Both parts of a range that is cut have its text, each one of its own.
+fn cut<C: NodesMut<u64, Span<Text>> + Drop>(rt: &impl Abort, alloc: Global, origin: C::Origin) {
+    let mut map: RangeMap<Text, C> = RangeMap::new(origin);
+    insert(rt, alloc, &mut map, 10, 20, "old");
+    insert(rt, alloc, &mut map, 12, 15, "new");
+    check_texts(
+        rt,
+        &map,
+        &[(10, 12, "old"), (12, 15, "new"), (15, 20, "old")],
+    );
+    assert_true(rt, map.remove(16, 18).is_ok());
+    assert_true(rt, map.remove(0, 12).is_ok());
+    check_texts(
+        rt,
+        &map,
+        &[(12, 15, "new"), (15, 16, "old"), (18, 20, "old")],
+    );
+    check_lent(rt, &map, 14, Some("new"));
+    check_lent(rt, &map, 15, Some("old"));
+    check_lent(rt, &map, 16, None);
+}
+
+// Ranges that touch are one if their texts are equal, wherever these are.
+fn join<C: NodesMut<u64, Span<Text>> + Drop>(rt: &impl Abort, alloc: Global, origin: C::Origin) {
+    let mut map: RangeMap<Text, C> = RangeMap::new(origin);
+    insert(rt, alloc, &mut map, 10, 20, "one");
+    insert(rt, alloc, &mut map, 30, 40, "one");
+    insert(rt, alloc, &mut map, 20, 25, "two");
+    insert(rt, alloc, &mut map, 5, 10, "");
+    insert(rt, alloc, &mut map, 40, 50, "ones");
+    assert_same(rt, map.len(), 5);
+    insert(rt, alloc, &mut map, 18, 33, "one");
+    check_texts(rt, &map, &[(5, 10, ""), (10, 40, "one"), (40, 50, "ones")]);
+    insert(rt, alloc, &mut map, 0, 60, "two");
+    check_texts(rt, &map, &[(0, 60, "two")]);
+}
+
+// An update puts texts in place of those that it reads.
+fn update<C: NodesMut<u64, Span<Text>> + Drop>(rt: &impl Abort, alloc: Global, origin: C::Origin) {
+    let mut map: RangeMap<Text, C> = RangeMap::new(origin);
+    insert(rt, alloc, &mut map, 3, 9, "a");
+    insert(rt, alloc, &mut map, 9, 12, "a!");
+    let outcome = map.update(5, 10, |text: &Text| marked(alloc, text));
+    assert_true(rt, outcome.is_ok());
+    check_texts(
+        rt,
+        &map,
+        &[(3, 5, "a"), (5, 9, "a!"), (9, 10, "a!!"), (10, 12, "a!")],
+    );
+    let outcome = map.update(0, 5, |text: &Text| marked(alloc, text));
+    assert_true(rt, outcome.is_ok());
+    check_texts(rt, &map, &[(3, 9, "a!"), (9, 10, "a!!"), (10, 12, "a!")]);
+}
+
+// Texts in several nodes, of which one takes the place of all.
+fn fill<C: NodesMut<u64, Span<Text>> + Drop>(rt: &impl Abort, alloc: Global, origin: C::Origin) {
+    let mut map: RangeMap<Text, C> = RangeMap::new(origin);
+    for number in 0..40u64 {
+        let start = 10 * number;
+        insert(rt, alloc, &mut map, start, start + 5, "old");
+    }
+    assert_same(rt, map.len(), 40);
+    check_lent(rt, &map, 394, Some("old"));
+    insert(rt, alloc, &mut map, 2, 393, "new");
+    check_texts(
+        rt,
+        &map,
+        &[(0, 2, "old"), (2, 393, "new"), (393, 395, "old")],
+    );
+}
+
+#[test]
+fn holds_texts(rt: HostRuntime) {
+    let alloc = rt.alloc();
+    cut::<Heap>(&rt, alloc, alloc);
+    join::<Heap>(&rt, alloc, alloc);
+    update::<Heap>(&rt, alloc, alloc);
+    fill::<Heap>(&rt, alloc, alloc);
+}
+
+// Where the clone of a text is refused its memory, an insertion into its range is refused, and so is a removal from it. Calls that cut no range
+// in two clone no text, and are granted.
+fn refuse<C: NodesMut<u64, Span<Text>> + Drop>(rt: &impl Abort, alloc: Global, origin: C::Origin) {
+    let mut map: RangeMap<Text, C> = RangeMap::new(origin);
+    let old = text(rt, alloc, 1, "old");
+    assert_true(rt, map.insert(10, 20, old).is_ok());
+    let new = text(rt, alloc, 0, "new");
+    let Err(refused) = map.insert(12, 15, new) else {
+        panic!(rt; "not refused")
+    };
+    check_texts(rt, &map, &[(10, 20, "old")]);
+    assert_same(rt, (refused.cause, refused.key), (RangeCause::Clone, 12));
+    let Span { end, value } = refused.value;
+    assert_same(rt, (end, value.letters()), (15, "new"));
+    assert_true(rt, map.remove(11, 19).is_err());
+    assert_true(rt, map.insert(5, 12, value).is_ok());
+    assert_true(rt, map.remove(18, 30).is_ok());
+    check_texts(rt, &map, &[(5, 12, "new"), (12, 18, "old")]);
+}
+
+#[test]
+fn clone_of_a_text_is_refused(rt: HostRuntime) {
+    refuse::<Heap>(&rt, rt.alloc(), rt.alloc());
+}
