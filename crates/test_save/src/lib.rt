@@ -1,0 +1,5 @@
+//! Tests of saved maps.
+#![tactic(auto)]
+
+#[cfg(test)]
+mod tests;
