@@ -5,6 +5,8 @@ pub mod CountLemmas
 pub mod Put
 pub mod Whole
 pub mod StoreLemmas
+pub mod RoomLemmas
+pub mod RoomLaws
 pub mod NodeLemmas
 pub mod Spelling
 pub mod OneSpelling

@@ -9,33 +9,39 @@ use Rattle.btree_item.specs.declared.fault.Fault.{Fault}
 use Rattle.btree_image.specs.declared.fault.ReadError.{ReadError}
 use Rattle.btree_image.specs.declared.fault.ReadError.TheVariants as reads
 use Rattle.btree_image.specs.Reading.{image_at}
-use Rattle.btree_image.specs.Saved.{IsErrorOf, IsSavedAs}
+use Rattle.btree_image.specs.Saved.{IsErrorOf, IsSavedAs, LacksNode, LacksRoom}
 use Rattle.btree_image.specs.SavedLaws.{saved-once}
 use Rattle.btree_spelled.specs.Spelled.{Read}
+use Rattle.btree_image.proofs.RoomLaws.{lacks-node}
 use Rattle.btree_save.specs.declared.error.OpenError.{OpenError}
 use Rattle.btree_save.specs.declared.error.OpenError.TheVariants as errors
 use Rattle.btree_save.specs.Errors.{error_of}
 use Rattle.btree_save.specs.Opened.{IsErrorFrom, IsOpenedFrom, IsRefusedBy, IsRefusedFrom}
 
-module _ {K V : Type 0} (read_key : Read K) (read_value : Read V) (cmp : K → K → Ordering) (bytes : List ℕ) where
-  pub read-refused : (error : ReadError) → IsErrorOf error (image_at read_key read_value bytes) → IsRefusedBy read_key read_value cmp bytes (error_of (length bytes) error)
-  read-refused reads.Store is = tt
+module _ {K V : Type 0} (read_key : Read K) (read_value : Read V) (cmp : K → K → Ordering) (MayLack : ℕ → Type 0) (bytes : List ℕ) where
+  abbrev lacks : Type 0
+  lacks = LacksRoom read_key read_value MayLack bytes
+
+  pub read-refused : (error : ReadError) → IsErrorOf lacks (image_at read_key read_value bytes) error → IsRefusedBy read_key read_value cmp MayLack bytes (error_of (length bytes) error)
+  read-refused reads.Store is = is
   read-refused (reads.Image stop) is = record { left = stop.left; first = is; place = refl }
 
-  pub read-opens : (error : ReadError) → IsErrorOf error (image_at read_key read_value bytes) → (s : TreeState K V) → IsSavedAs read_key read_value s bytes → IsBTreeWithinLimit s cmp → error_of (length bytes) error ≡ errors.Store
-  read-opens reads.Store is s saved within = refl
+  pub read-opens : (error : ReadError) → IsErrorOf lacks (image_at read_key read_value bytes) error → (s : TreeState K V) → IsSavedAs read_key read_value s bytes → IsBTreeWithinLimit s cmp
+      → (error_of (length bytes) error ≡ errors.Store) × LacksNode MayLack s
+  read-opens reads.Store is s saved within = (refl, lacks-node read_key read_value MayLack s bytes is saved)
   read-opens (reads.Image stop) is s saved within = let both : Ok saved.image ≡ Err stop = sym saved.read ∙ is in absurd cc
 
   -- bytes of a well formed tree are no other tree's
-  pub tree-opens : (raw : TreeState K V) (fault : Fault) → IsSavedAs read_key read_value raw bytes → ¬ IsBTreeWithinLimit raw cmp → (s : TreeState K V) → IsSavedAs read_key read_value s bytes → IsBTreeWithinLimit s cmp → errors.Tree fault ≡ errors.Store
+  pub tree-opens : (raw : TreeState K V) (fault : Fault) → IsSavedAs read_key read_value raw bytes → ¬ IsBTreeWithinLimit raw cmp → (s : TreeState K V) → IsSavedAs read_key read_value s bytes → IsBTreeWithinLimit s cmp
+      → (errors.Tree fault ≡ errors.Store) × LacksNode MayLack s
   tree-opens raw fault opened other s saved within =
       let same = saved-once read_key read_value s raw bytes saved opened in
       absurd (other (subst (λ (t : TreeState K V). IsBTreeWithinLimit t cmp) (sym same) within))
 
   -- so it is with what a reader gave
-  pub error-from : (remaining : Option (List ℕ)) → IfSome remaining (λ left. bytes ≡ left) → (e : OpenError) → IsRefusedBy read_key read_value cmp bytes e → IsErrorFrom read_key read_value cmp remaining e
+  pub error-from : (remaining : Option (List ℕ)) → IfSome remaining (λ left. bytes ≡ left) → (e : OpenError) → IsRefusedBy read_key read_value cmp MayLack bytes e → IsErrorFrom read_key read_value cmp MayLack remaining e
   error-from remaining all (errors.Read e) refused = tt
-  error-from remaining all errors.Store refused = tt
+  error-from remaining all errors.Store refused = record { bytes = bytes; all = all; refused = refused }
   error-from remaining all (errors.Image fault at) refused = record { bytes = bytes; all = all; refused = refused }
   error-from remaining all (errors.Tree fault) refused = record { bytes = bytes; all = all; refused = refused }
 
@@ -43,7 +49,7 @@ module _ {K V : Type 0} (read_key : Read K) (read_value : Read V) (cmp : K → K
   opened-from remaining all (Ok s) saved = record { bytes = bytes; all = all; saved = saved }
   opened-from remaining all (Err e) saved = tt
 
-  pub refused-from : {T : Type 0} (remaining : Option (List ℕ)) → IfSome remaining (λ left. bytes ≡ left) → (r : Result T OpenError) → IfErr r (IsRefusedBy read_key read_value cmp bytes) → IfErr r (IsErrorFrom read_key read_value cmp remaining)
+  pub refused-from : {T : Type 0} (remaining : Option (List ℕ)) → IfSome remaining (λ left. bytes ≡ left) → (r : Result T OpenError) → IfErr r (IsRefusedBy read_key read_value cmp MayLack bytes) → IfErr r (IsErrorFrom read_key read_value cmp MayLack remaining)
   refused-from remaining all (Ok s) refused = tt
   refused-from remaining all (Err e) refused = error-from remaining all e refused
 

@@ -1,5 +1,5 @@
 -- What `open` promises, beside `IsSavedAs` of `btree_image`: the bytes say that this is the tree.
-use Rattle.std.specs.Prelude.{◌≡◌, ◌-◌, ℕ, IfSome, IsOkUnless, List, length, Option, Result, Err}
+use Rattle.std.specs.Prelude.{◌≡◌, ◌-◌, ℕ, IfErr, IfSome, List, length, Option, Result, Err}
 use Rattle.std.specs.Io.KnownBytes.{Appends}
 use Rattle.std.specs.declared.cmp.Ordering.{Ordering}
 use Rattle.btree_laws.specs.TreeState.{TreeState}
@@ -7,7 +7,7 @@ use Rattle.btree_raw.specs.Limit.{IsBTreeWithinLimit}
 use Rattle.btree_valid.specs.Faults.{IsRawVerdict}
 use Rattle.btree_image.specs.declared.fault.BadImage.{BadImage}
 use Rattle.btree_image.specs.Reading.{image_at}
-use Rattle.btree_image.specs.Saved.{AreOnlyBytesOf, IsSavedAs}
+use Rattle.btree_image.specs.Saved.{AreOnlyBytesOf, IsSavedAs, LacksNode, LacksRoom}
 use Rattle.btree_spelled.specs.Spelled.{Read}
 use Rattle.btree_save.specs.declared.error.OpenError.{OpenError}
 use Rattle.btree_save.specs.declared.error.OpenError.TheVariants as errors
@@ -19,12 +19,12 @@ module _ {K V : Type 0} (read_key : Read K) (read_value : Read V) where
     pub first : image_at read_key read_value bytes ≡ Err (record { fault = fault; left = left })
     pub place : at ≡ length bytes - left
 
-  module _ (cmp : K → K → Ordering) where
-    -- why bytes are not opened: the store had no room; or the first fault of the image; or the bytes are those of a tree, and this
-    -- is its verdict. No reader is asked.
+  module _ (cmp : K → K → Ordering) (MayLack : ℕ → Type 0) where
+    -- why bytes are not opened: the store may have no room for the number of a node up to which they have no fault; or the first fault of
+    -- the image; or the bytes are those of a tree, and this is its verdict. No reader is asked.
     abbrev pub IsRefusedBy : List ℕ → OpenError → Type 0
     IsRefusedBy bytes (errors.Read e) = ⊥
-    IsRefusedBy bytes errors.Store = Unit {0}
+    IsRefusedBy bytes errors.Store = LacksRoom read_key read_value MayLack bytes
     IsRefusedBy bytes (errors.Image fault at) = IsFaultAt bytes fault at
     IsRefusedBy bytes (errors.Tree fault) = (s : TreeState K V) × IsSavedAs read_key read_value s bytes × IsRawVerdict cmp s (Err fault)
 
@@ -34,16 +34,17 @@ module _ {K V : Type 0} (read_key : Read K) (read_value : Read V) where
       pub all : IfSome remaining (λ left. bytes ≡ left)
       pub refused : IsRefusedBy bytes e
 
-    -- why a reader is not opened: it failed, or the store had no room, or its bytes have a fault
+    -- why a reader is not opened: it failed, or its bytes are refused
     abbrev pub IsErrorFrom : Option (List ℕ) → OpenError → Type 0
     IsErrorFrom remaining (errors.Read e) = Unit {0}
-    IsErrorFrom remaining errors.Store = Unit {0}
+    IsErrorFrom remaining errors.Store = IsRefusedFrom remaining errors.Store
     IsErrorFrom remaining (errors.Image fault at) = IsRefusedFrom remaining (errors.Image fault at)
     IsErrorFrom remaining (errors.Tree fault) = IsRefusedFrom remaining (errors.Tree fault)
 
-    -- if they are the bytes of a well formed tree within its limit, they are opened, unless the store has no room
+    -- if they are the bytes of a well formed tree within its limit, they are opened, unless the store may have no room for the number of a
+    -- node of it
     abbrev pub Opens : {T : Type 0} → List ℕ → Result T OpenError → Type 0
-    Opens bytes result = (s : TreeState K V) → IsSavedAs read_key read_value s bytes → IsBTreeWithinLimit s cmp → IsOkUnless result errors.Store
+    Opens bytes result = (s : TreeState K V) → IsSavedAs read_key read_value s bytes → IsBTreeWithinLimit s cmp → IfErr result (λ e. (e ≡ errors.Store) × LacksNode MayLack s)
 
   -- the bytes that the reader had left, if they are known, are those of the tree
   pub record IsOpenedFrom (remaining : Option (List ℕ)) (s : TreeState K V) : Type 0 where

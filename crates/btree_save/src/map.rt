@@ -1,5 +1,5 @@
 //! Maps as bytes.
-ghost use Rattle.std.specs.Prelude.{◌≡◌, [], IfErr, IfOk, IsOkUnless, OnOk};
+ghost use Rattle.std.specs.Prelude.{◌≡◌, [], IfErr, IfOk, OnOk};
 ghost use Rattle.std.specs.FinMap as map;
 ghost use Rattle.std.specs.Mem.{FitsInMemory};
 ghost use Rattle.btree_node.specs.contracts.node.Node.{the_row as node_row};
@@ -34,16 +34,17 @@ pub fn bytes_of_map<K: Spelled + Ord, V: Spelled, C: NodesMut<K, V>, A: Allocato
     bytes_of(alloc, map.as_raw())
 }
 
-// Returns the map that bytes are those of, in a store without nodes.
+// Returns the map that bytes are those of, in an unused store.
 fn map_in_store<K: Spelled + Ord, V: Spelled, C: Fill<Node<K, V>> + Drop>(
     nodes: C,
     bytes: &[u8],
 ) -> Result<BTreeMap<K, V, C>, OpenError>
     requires fits { FitsInMemory (node_row K.row V.row) }
     requires empty { C.content nodes ≡ map.empty }
+    requires unused { C.reached nodes ≡ 0 }
     ensures saved { IfOk result (λ map. IsSavedAs K.read V.read map bytes.now) }
-    ensures refused { IfErr result (λ e. IsRefusedBy K.read V.read K.cmp bytes.now e) }
-    ensures opens { Opens K.read V.read K.cmp bytes.now result }
+    ensures refused { IfErr result (IsRefusedBy K.read V.read K.cmp C.MayLack bytes.now) }
+    ensures opens { Opens K.read V.read K.cmp C.MayLack bytes.now result }
 {
     match read_tree(nodes, bytes) {
         Ok(raw) => match BTreeMap::from_raw(raw) {
@@ -57,6 +58,9 @@ fn map_in_store<K: Spelled + Ord, V: Spelled, C: Fill<Node<K, V>> + Drop>(
 /// Returns the map that bytes are those of, whatever they are, in a store made from `origin`. Its nodes have the numbers that they had, so
 /// each address names what it named.
 ///
+/// It opens the bytes of each well formed tree within its limit, unless the store may have no room for the number of a node: a table of N
+/// nodes opens those whose nodes have numbers below N.
+///
 /// It reads each byte twice, and each node once more. For each eight bytes it takes room for at most one node.
 pub fn map_of_bytes<K: Spelled + Ord, V: Spelled, C: Fill<Node<K, V>> + Drop>(
     origin: C::Origin,
@@ -64,12 +68,12 @@ pub fn map_of_bytes<K: Spelled + Ord, V: Spelled, C: Fill<Node<K, V>> + Drop>(
 ) -> Result<BTreeMap<K, V, C>, OpenError>
     requires { FitsInMemory (node_row K.row V.row) }
     ensures saved { IfOk result (λ map. IsSavedAs K.read V.read map bytes.now) }
-    ensures refused { IfErr result (λ e. IsRefusedBy K.read V.read K.cmp bytes.now e) }
+    ensures refused { IfErr result (IsRefusedBy K.read V.read K.cmp C.MayLack bytes.now) }
     // What was saved is opened, if there is room.
-    ensures opens { Opens K.read V.read K.cmp bytes.now result }
+    ensures opens { Opens K.read V.read K.cmp C.MayLack bytes.now result }
 {
     C::note_fits();
-    map_in_store(C::empty(origin), bytes)
+    map_in_store(C::unused(origin), bytes)
 }
 
 /// Writes a map, always as the same bytes.
@@ -89,7 +93,8 @@ pub fn save<K: Spelled + Ord, V: Spelled, C: NodesMut<K, V>, A: Allocator, W: Wr
     }
 }
 
-/// Opens what a reader gives up to its end, as `map_of_bytes` does.
+/// Opens what a reader gives up to its end, as `map_of_bytes` does. It says that the store has no room only if that may be so for the number
+/// of a node that was read.
 ///
 /// It takes memory for the bytes too.
 pub fn open<K: Spelled + Ord, V: Spelled, C: Fill<Node<K, V>> + Drop, A: Allocator, R: Read>(
@@ -99,10 +104,11 @@ pub fn open<K: Spelled + Ord, V: Spelled, C: Fill<Node<K, V>> + Drop, A: Allocat
 ) -> Result<BTreeMap<K, V, C>, OpenError>
     requires { FitsInMemory (node_row K.row V.row) }
     ensures saved { IfOk result (IsOpenedFrom K.read V.read (R.remaining input.old)) }
-    ensures refused { IfErr result (IsErrorFrom K.read V.read K.cmp (R.remaining input.old)) }
+    ensures refused { IfErr result
+        (IsErrorFrom K.read V.read K.cmp C.MayLack (R.remaining input.old)) }
 {
     C::note_fits();
-    let nodes = C::empty(origin);
+    let nodes = C::unused(origin);
     let mut bytes = Vec::new(alloc);
     match input.read_to_end(&mut bytes) {
         Ok(_count) => map_in_store(nodes, &bytes),

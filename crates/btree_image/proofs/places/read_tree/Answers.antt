@@ -4,13 +4,14 @@ use Rattle.btree_image.specs.declared.fault.Stop.{Stop}
 use Rattle.btree_image.specs.declared.fault.ReadError.{ReadError}
 use Rattle.btree_image.specs.declared.fault.ReadError.TheVariants as errors
 use Rattle.btree_image.specs.Reading.{body_at, image_at, image_of}
-use Rattle.btree_image.specs.Saved.{IsErrorOf}
+use Rattle.btree_image.specs.Saved.{IsErrorOf, LacksPlace, LacksRoom}
 use Rattle.btree_image.proofs.places.read_tree.Goals as goal
 
 -- an error of a part is one of the whole, if the fault is
-error-of : {X Y : Type 0} (e : ReadError) (part : Result X Stop) (whole : Result Y Stop) → ((stop : Stop) → part ≡ Err stop → whole ≡ Err stop) → IsErrorOf e part → IsErrorOf e whole
-error-of errors.Store part whole same is = tt
-error-of (errors.Image stop) part whole same is = same stop is
+error-of : {X Y Lacks LacksAll : Type 0} (e : ReadError) (part : Result X Stop) (whole : Result Y Stop) → (Lacks → LacksAll) → ((stop : Stop) → part ≡ Err stop → whole ≡ Err stop)
+    → IsErrorOf Lacks part e → IsErrorOf LacksAll whole e
+error-of errors.Store part whole lacks same is = lacks is
+error-of (errors.Image stop) part whole lacks same is = same stop is
 
 pub returns-in_err-head-clause-refused : goal.returns-in_err-head-clause-refused
 unfolding image_at body_at
@@ -22,7 +23,9 @@ pub returns-in_err-nodes-clause-refused : goal.returns-in_err-nodes-clause-refus
 unfolding image_at body_at
 returns-in_err-nodes-clause-refused g c =
     let p = err_from_is_err_and c.from_residual-in_err-nodes.result c.from_residual-in_err-nodes.ensures.1 in
-    rw (p.1, p.2) (error-of c.in_err-nodes.field-0.0 _ _ (λ stop is. rw (c.in_ok-head.ensures, is) refl) c.in_err-nodes.ensures.refused)
+    let lacking : LacksPlace g.K.Spelled.read g.V.Spelled.read g.C.Fill.MayLack c.in_ok-head.head.count c.in_ok-head.rest.now → LacksRoom g.K.Spelled.read g.V.Spelled.read g.C.Fill.MayLack c.args.bytes.now =
+    λ place. record { head = c.in_ok-head.head; rest = c.in_ok-head.rest.now; read = c.in_ok-head.ensures; place = place } in
+    rw (p.1, p.2) (error-of c.in_err-nodes.field-0.0 _ _ lacking (λ stop is. rw (c.in_ok-head.ensures, is) refl) c.in_err-nodes.ensures.refused)
 
 pub returns-in_err-read_end-clause-refused : goal.returns-in_err-read_end-clause-refused
 unfolding image_at body_at

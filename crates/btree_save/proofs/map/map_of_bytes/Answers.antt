@@ -7,7 +7,10 @@ pub map_in_store-requires-clause-fits : goal.map_in_store-requires-clause-fits
 map_in_store-requires-clause-fits g c = c.requires
 
 pub map_in_store-requires-clause-empty : goal.map_in_store-requires-clause-empty
-map_in_store-requires-clause-empty g c = c.empty.ensures.content
+map_in_store-requires-clause-empty g c = c.unused.ensures.content
+
+pub map_in_store-requires-clause-unused : goal.map_in_store-requires-clause-unused
+map_in_store-requires-clause-unused g c = c.unused.ensures.reached
 
 pub returns-clause-saved : goal.returns-clause-saved
 returns-clause-saved g c = c.map_in_store.ensures.saved

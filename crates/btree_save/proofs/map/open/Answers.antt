@@ -8,14 +8,17 @@ pub map_in_store-requires-clause-fits : goal.map_in_store-requires-clause-fits
 map_in_store-requires-clause-fits g c = c.requires
 
 pub map_in_store-requires-clause-empty : goal.map_in_store-requires-clause-empty
-map_in_store-requires-clause-empty g c = c.empty-nodes.ensures.content
+map_in_store-requires-clause-empty g c = c.unused-nodes.ensures.content
+
+pub map_in_store-requires-clause-unused : goal.map_in_store-requires-clause-unused
+map_in_store-requires-clause-unused g c = c.unused-nodes.ensures.reached
 
 pub returns-in-Ok-clause-saved : goal.returns-in-Ok-clause-saved
 returns-in-Ok-clause-saved g c =
-    opened-from g.K.Spelled.read g.V.Spelled.read g.K.Ord.cmp c.deref.result.now (g.R.Read.remaining c.args.input.now)
+    opened-from g.K.Spelled.read g.V.Spelled.read g.K.Ord.cmp g.C.Fill.MayLack c.deref.result.now (g.R.Read.remaining c.args.input.now)
     (all-read (g.R.Read.remaining c.args.input.now) c.new-bytes.result.items c.read_to_end.new.buf.items c.deref.result.now c.new-bytes.ensures.items c.deref.ensures.value c.in-Ok.ensures.bytes) c.map_in_store.result c.map_in_store.ensures.saved
 
 pub returns-in-Ok-clause-refused : goal.returns-in-Ok-clause-refused
 returns-in-Ok-clause-refused g c =
-    refused-from g.K.Spelled.read g.V.Spelled.read g.K.Ord.cmp c.deref.result.now (g.R.Read.remaining c.args.input.now)
+    refused-from g.K.Spelled.read g.V.Spelled.read g.K.Ord.cmp g.C.Fill.MayLack c.deref.result.now (g.R.Read.remaining c.args.input.now)
     (all-read (g.R.Read.remaining c.args.input.now) c.new-bytes.result.items c.read_to_end.new.buf.items c.deref.result.now c.new-bytes.ensures.items c.deref.ensures.value c.in-Ok.ensures.bytes) c.map_in_store.result c.map_in_store.ensures.refused
