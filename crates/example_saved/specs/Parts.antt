@@ -1,12 +1,12 @@
 -- A part has the bytes of the pair of its fields.
 use Rattle.std.specs.Prelude.{◌≡◌, ℕ, List, Some, refl}
 use Rattle.std.specs.Int.{w32}
-use Rattle.btree_image.specs.Mapped.{mapped_bytes, mapped_read}
-use Rattle.btree_image.specs.MappedLaws.{mapped-again, mapped-takes}
-use Rattle.btree_image.specs.NumberLaws.{pair-takes, u32-takes}
-use Rattle.btree_image.specs.Numbers.{number_bytes, number_read}
-use Rattle.btree_image.specs.Pairs.{pair_bytes, pair_read}
-use Rattle.btree_image.specs.Spelled.{Read, Takes}
+use Rattle.btree_spelled.specs.Mapped.{mapped_bytes, mapped_read}
+use Rattle.btree_spelled.specs.MappedLaws.{mapped-again, mapped-takes}
+use Rattle.btree_spelled.specs.NumberLaws.{pair-takes, u32-takes}
+use Rattle.btree_spelled.specs.Numbers.{number_bytes, number_read}
+use Rattle.btree_spelled.specs.Pairs.{pair_bytes, pair_read}
+use Rattle.btree_spelled.specs.Spelled.{Read, Takes}
 use Rattle.example_saved.specs.declared.part.Part.{Part}
 
 abbrev pub fields : Part → ℕ × ℕ

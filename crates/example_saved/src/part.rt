@@ -2,7 +2,7 @@
 ghost use Rattle.std.specs.Prelude.{◌≡◌, ◌++◌, OnOk, Some, option_map};
 ghost use Rattle.example_saved.specs.Parts.{part_bytes, part_read, part_takes};
 
-use btree_image::Spelled;
+use btree_spelled::Spelled;
 use std::alloc::{AllocError, Allocator};
 
 /// How many there are of a part, and what one weighs.
