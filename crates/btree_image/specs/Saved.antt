@@ -44,7 +44,8 @@ pub record LacksNode {K V : Type 0} (MayLack : ℕ → Type 0) (s : TreeState K 
   pub used : IsUsed s id
 
 module _ {K V : Type 0} (read_key : Read K) (read_value : Read V) (MayLack : ℕ → Type 0) where
-  -- one of so many places has a node, there is no fault up to it, and a store may have no room for its number
+  -- one of so many places has a node, there is no fault up to it, and a store may have no room for its number. A place with a node is read
+  -- alike whether it is the last or not.
   pub record LacksPlace (count : ℕ) (bytes : List ℕ) : Type 0 where
     pub id : ℕ
     pub lacks : MayLack id

@@ -1,5 +1,5 @@
 -- One step along ranges that may be those of a map.
-use Rattle.std.proofs.Common.{◌≡◌, ◌↔◌, ◌≤◌, ◌<◌, IsTrue, false, true, List, [], ◌∷◌, ℕ, zero, suc, sym, subst, refl, arith, Option, Some, None, slice_get, ap, ◌∙◌}
+use Rattle.std.proofs.Common.{◌≡◌, ◌↔◌, ◌≤◌, IsTrue, false, true, List, [], ◌∷◌, ℕ, zero, suc, sym, subst, refl, arith, Option, Some, None, ap, ◌∙◌}
 use Rattle.std.proofs.lemmas.Option.{same_Some}
 use Rattle.btree_range_map.specs.declared.span.Span.{Span}
 use Rattle.btree_range_map.specs.Places.{Follows, MayFollow}

@@ -1,8 +1,8 @@
 -- What callers conclude from the words of a map of ranges: which numbers are between two others, which values the ranges have
 -- that meet some numbers, which numbers are in a gap or below it, and that `==` is equality of the ranges.
 -- The ruleset gives `search` the laws on ranges that meet, and on gaps.
-use Rattle.std.proofs.Common.{◌≡◌, ◌≤◌, ◌<◌, ◌∙◌, ℕ, suc, max, min, Bool, true, false, not, ◌&&◌, is_some, nat_eq, nat_le, nat_lt, List, [], ◌∷◌, cond, Option, Some, None, refl, sym, ap, arith, ◌⊎◌, inl, inr, Decides}
-use Rattle.std.proofs.lemmas.Bool.{and_from, and_parts, cases_Bool, eq-eqb, eqb-true, le-leb, leb-true, lt-ltb, ltb-true, or_from, or_left}
+use Rattle.std.proofs.Common.{◌≡◌, ◌≤◌, ◌<◌, ◌∙◌, ℕ, max, min, Bool, true, false, is_some, nat_eq, nat_le, nat_lt, List, [], ◌∷◌, cond, Option, Some, None, refl, sym, ap, arith, ◌⊎◌, inl, inr, Decides}
+use Rattle.std.proofs.lemmas.Bool.{and_from, and_parts, cases_Bool, eq-eqb, eqb-true, le-leb, leb-true, lt-ltb, ltb-true}
 use Rattle.std.specs.Cmp.Lexicographic.{pointwise_decides}
 use Rattle.btree_map.specs.Comparison.{pair_eq}
 use Rattle.btree_range_map.specs.declared.span.Span.{Span}

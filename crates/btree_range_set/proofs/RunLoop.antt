@@ -1,6 +1,5 @@
 -- One step along ranges that may be those of a set.
 use Rattle.std.proofs.Common.{◌≡◌, ◌↔◌, ◌≤◌, ◌<◌, IsTrue, false, true, List, [], ◌∷◌, ℕ, suc, sym, subst, refl}
-use Rattle.btree_range_set.specs.Places.{low_after}
 use Rattle.btree_range_set.specs.Ranges.{AreRunsFrom}
 
 module _ (runs : Type 0) (low : ℕ) (xs rest : List (ℕ × ℕ)) (x : ℕ × ℕ) (is : xs ≡ x ∷ rest) (so_far : runs ↔ AreRunsFrom low xs) where

@@ -1,4 +1,4 @@
-use Rattle.std.proofs.Common.{◌≡◌, ◌+◌, ◌≤◌, ◌-◌, ◌∙◌, ℕ, [], ap, arith, sym}
+use Rattle.std.proofs.Common.{◌≤◌, ◌-◌, arith}
 use Rattle.btree_range_map.specs.Counts.{count_between}
 use Rattle.btree_range_map.specs.Ranges.{has_value, range_now}
 use Rattle.btree_range_map.proofs.CountLemmas.{counts-none, left-rest, skips-on, takes-most, takes-on}

@@ -1,5 +1,5 @@
-use Rattle.std.proofs.Common.{◌≡◌, ◌+◌, ◌≤◌, ◌-◌, ◌∙◌, ℕ, [], ap, arith, sym}
-use Rattle.btree_range_set.specs.Counts.{count_between, count_from}
+use Rattle.std.proofs.Common.{◌≤◌, ◌-◌, arith}
+use Rattle.btree_range_set.specs.Counts.{count_between}
 use Rattle.btree_range_set.specs.Ranges.{has_number}
 use Rattle.btree_range_set.proofs.CountLemmas.{counts-none, left-rest, skips-on, takes-most, takes-on}
 use Rattle.btree_range_set.specs.CountLaws.{count-most}

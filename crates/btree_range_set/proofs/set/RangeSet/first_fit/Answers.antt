@@ -1,4 +1,4 @@
-use Rattle.btree_range_set.proofs.Common.{◌<◌, ℕ, List, subst, arith}
+use Rattle.btree_range_set.proofs.Common.{ℕ, List, subst, arith}
 use Rattle.btree_range_set.specs.FitLaws.{AreLeft, all-left, fit-found, none-left, rest-left}
 use Rattle.btree_range_set.specs.Ranges.{has_number}
 use Rattle.btree_range_set.proofs.set.RangeSet.first_fit.Goals as goal
@@ -10,7 +10,7 @@ pub returns-then-size-saturating_sub-clause-first : goal.returns-then-size-satur
 returns-then-size-saturating_sub-clause-first g c =
     let taken = has_number c.args.self.now.ranges in
     let left = subst (λ (gaps : List (ℕ × ℕ)). AreLeft taken c.args.start c.args.end c.args.size gaps) c.in-Some.ensures.steps c.loop-first.invariant in
-    fit-found taken c.args.start c.args.end c.args.size (c.in-Some.first, c.in-Some.past) c.next.new.self left (omega (arith, c.if-size.false))
+    fit-found taken c.args.start c.args.end c.args.size (c.in-Some.first, c.in-Some.past) c.next.new.self left (omega (arith, c.if-size-eq0.false))
     (omega (arith, c.if-size-saturating_sub.true, c.saturating_sub.ensures))
 
 pub loop-first-preserved : goal.loop-first-preserved
@@ -23,5 +23,5 @@ loop-first-preserved g c =
 pub returns-clause-none : goal.returns-clause-none
 returns-clause-none g c =
     let taken = has_number c.args.self.now.ranges in
-    none-left taken c.args.start c.args.end c.args.size (omega (arith, c.if-size.false))
+    none-left taken c.args.start c.args.end c.args.size (omega (arith, c.if-size-eq0.false))
     (subst (λ (gaps : List (ℕ × ℕ)). AreLeft taken c.args.start c.args.end c.args.size gaps) c.in_default.ensures.steps.0 c.loop-first.invariant)
