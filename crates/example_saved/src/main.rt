@@ -1,39 +1,17 @@
-//! A stock of parts that is saved, opened again, changed at an address that was kept, and saved again. A bad file gives its fault, and ends
-//! the program with status 1.
+//! A stock of parts that is saved, opened again, changed at an address that was kept, and saved again. Then a few files are opened: the parts
+//! of each are printed, or its fault. If one has a fault, the program ends with status 1.
 #![tactic(auto)]
 
 mod part;
+mod stock;
 
-use crate::part::Part;
-use anyhow::{Context, Result, bail};
-use btree_save::{SavedMap, open, save};
-use btree_slab::{BTreeExt, BTreeExtMut};
-use std::alloc::Global;
+use crate::stock::{Stock, read_stock, recount};
+use anyhow::{Result, bail};
+use btree_save::{open, save};
+use btree_slab::BTreeExt;
 use std::fs;
+use std::process::ExitCode;
 use std::rt::Files;
-
-type Stock = SavedMap<u32, Part>;
-
-// Reads a number.
-fn read_number(word: Option<&str>) -> Result<u32> {
-    let Some(word) = word else {
-        bail!("a line with fewer than three numbers");
-    };
-    Ok(word.parse::<u32>().context("no number")?)
-}
-
-// Reads a part's number, its count and its weight from each line.
-fn read_stock(alloc: Global, text: &str) -> Result<Stock> {
-    let mut stock = Stock::new(alloc);
-    for line in text.lines() {
-        let mut words = line.split(' ');
-        let number = read_number(words.next())?;
-        let count = read_number(words.next())?;
-        let grams = read_number(words.next())?;
-        stock.insert(number, Part { count, grams })?;
-    }
-    Ok(stock)
-}
 
 // Saves a stock as a file.
 fn save_as<R: Files + AllocGlobal>(rt: &R, stock: &Stock, path: &str) -> Result<()> {
@@ -45,40 +23,48 @@ fn save_as<R: Files + AllocGlobal>(rt: &R, stock: &Stock, path: &str) -> Result<
 // Opens a file as a stock.
 fn open_from<R: Files + AllocGlobal>(rt: &R, path: &str) -> Result<Stock> {
     let mut file = fs::open(rt, path)?;
-    let stock = open(rt.alloc(), rt.alloc(), &mut file).context("not opened")?;
+    let stock: Stock = open(rt.alloc(), rt.alloc(), &mut file)?;
     Ok(stock)
 }
 
-// Prints a part.
-fn print_part(rt: &impl Print, number: u32, part: Part) -> Result<()> {
-    rt.println(format_args!("{number}: {} of {} g", part.count, part.grams))?;
-    Ok(())
+// Saves the stock of a text, opens it, counts a part anew where it was, and saves it again.
+fn save_and_change<R: Files + AllocGlobal>(rt: &R, text: &str, path: &str) -> Result<()> {
+    let stock = read_stock(rt.alloc(), text)?;
+    let Ok(bolts) = stock.address_of(&17) else {
+        bail!("there is no part 17");
+    };
+    save_as(rt, &stock, path)?;
+    let mut again = open_from(rt, path)?;
+    if !recount(&mut again, bolts, 349) {
+        bail!("part 17 is gone");
+    }
+    save_as(rt, &again, path)
 }
 
-fn main(rt: HostRuntime) -> Result<()> {
-    let text = fs::read_to_string(&rt, "stock.txt")?;
-    let stock = read_stock(rt.alloc(), text.as_str())?;
-    let Ok(bolts) = stock.address_of(&17) else {
-        bail!("no part 17");
+// Prints the parts of a file, or its fault. Returns whether it has none.
+fn print_file<R: Files + AllocGlobal + Print>(rt: &R, path: &str) -> Result<bool> {
+    let stock = match open_from(rt, path) {
+        Ok(stock) => stock,
+        Err(fault) => {
+            rt.println(format_args!("{path}: {fault}"))?;
+            return Ok(false);
+        }
     };
-    save_as(&rt, &stock, "stock.sav")?;
+    rt.println(format_args!("{path}: {} parts", stock.len()))?;
+    for (number, part) in stock.iter() {
+        rt.println(format_args!("{number}: {} of {} g", part.count, part.grams))?;
+    }
+    Ok(true)
+}
 
-    let mut again = open_from(&rt, "stock.sav")?;
-    let (number, part) = again.pair_at(bolts);
-    print_part(&rt, *number, *part)?;
-    again.replace_value_at(
-        bolts,
-        Part {
-            count: 349,
-            grams: 12,
-        },
-    );
-    save_as(&rt, &again, "stock.sav")?;
-
-    let last = open_from(&rt, "stock.sav")?;
-    let (number, part) = last.pair_at(bolts);
-    print_part(&rt, *number, *part)?;
-
-    open_from(&rt, "torn.sav")?;
-    Ok(())
+fn main(rt: HostRuntime) -> Result<ExitCode> {
+    let text = fs::read_to_string(&rt, "stock.txt")?;
+    save_and_change(&rt, text.as_str(), "stock.sav")?;
+    let mut code = ExitCode::SUCCESS;
+    for path in ["stock.sav", "stock.txt", "torn.sav", "unsorted.sav"] {
+        if !print_file(&rt, path)? {
+            code = ExitCode::FAILURE;
+        }
+    }
+    Ok(code)
 }

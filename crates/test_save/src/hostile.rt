@@ -1,7 +1,7 @@
 //! Bytes that no one saved.
 use crate::asserts::{assert_same, assert_true};
 use crate::maps::{Slots, saved_squares};
-use crate::verdicts::{Tally, Verdict, verdict};
+use crate::verdicts::{Tally, Verdict, tried_in};
 use crate::words::{MAGIC, add_sum, bytes_of_words};
 use btree_image::BadImage;
 use std::alloc::{AllocError, Global};
@@ -29,7 +29,7 @@ fn sum_anew(bytes: &mut Vec<u8>) -> Result<(), AllocError> {
 
 // Opens bytes in slots.
 fn tried(rt: &impl Abort, alloc: Global, bytes: &[u8]) -> Result<Verdict, Fail> {
-    verdict::<Slots>(rt, alloc, alloc, bytes)
+    tried_in::<Slots>(rt, alloc, alloc, bytes)
 }
 
 // Changes a byte. With the old check sum the bytes are no image, and with the right one they may be.

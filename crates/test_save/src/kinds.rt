@@ -23,12 +23,7 @@ fn check_kind<
     K: Spelled + Ord + Copy + Debug,
     V: Spelled + PartialEq + Copy + Debug,
     C: Fill<Node<K, V>, Origin = Global> + Drop,
->(
-    rt: &impl Abort,
-    alloc: Global,
-    pairs: &[(K, V)],
-    len: usize,
-) -> Result<(), Fail>
+>(rt: &impl Abort, alloc: Global, pairs: &[(K, V)], len: usize) -> Result<(), Fail>
     requires { FitsInMemory (node_row K.row V.row) }
 {
     let mut map: BTreeMap<K, V, C> = BTreeMap::new(alloc);

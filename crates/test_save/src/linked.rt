@@ -2,7 +2,7 @@
 use crate::asserts::assert_same;
 use crate::hostile::next;
 use crate::maps::Slots;
-use crate::verdicts::{Tally, Verdict, verdict};
+use crate::verdicts::{Tally, Verdict, tried_in};
 use crate::words::{MAGIC, NONE, add_sum, bytes_of_words};
 use std::alloc::{AllocError, Global};
 use std::process::Abort;
@@ -68,7 +68,7 @@ fn nodes_are_linked_in_any_way(rt: HostRuntime) -> Result<(), Fail> {
     let mut tally = Tally::NONE;
     for list in 0..2000 {
         let bytes = linked(rt.alloc(), list)?;
-        tally.count(&rt, verdict::<Slots>(&rt, rt.alloc(), rt.alloc(), &bytes)?);
+        tally.count(&rt, tried_in::<Slots>(&rt, rt.alloc(), rt.alloc(), &bytes)?);
     }
     assert_same(&rt, (tally.opened, tally.images, tally.trees), (0, 0, 2000));
     Ok(())
@@ -103,7 +103,7 @@ fn try_children(rt: &impl Abort, alloc: Global, tally: &mut Tally, root: u64) ->
         let parents = (NONE, id_in(links, 1), id_in(links, 5));
         let children = (id_in(links, 25), id_in(links, 125));
         let bytes = family(alloc, root, parents, children)?;
-        let found = verdict::<Slots>(rt, alloc, alloc, &bytes)?;
+        let found = tried_in::<Slots>(rt, alloc, alloc, &bytes)?;
         let is_right = (root, parents, children) == (0, (NONE, 0, 0), (1, 2));
         assert_same(rt, found == Verdict::Opened, is_right);
         tally.count(rt, found);

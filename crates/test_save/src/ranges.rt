@@ -108,7 +108,13 @@ fn check_spans<C: Fill<Node<u64, Span<u8>>> + Drop>(
     match RangeMap::from_map(map) {
         Ok(again) => {
             assert_same(rt, again.len(), 3);
-            for (at, value) in [(2, None), (3, Some(1)), (4, Some(2)), (8, Some(1)), (9, None)] {
+            for (at, value) in [
+                (2, None),
+                (3, Some(1)),
+                (4, Some(2)),
+                (8, Some(1)),
+                (9, None),
+            ] {
                 assert_same(rt, again.get(at).copied(), value);
             }
         }

@@ -1,7 +1,7 @@
 //! Files whose bytes and faults are known by hand.
 use crate::asserts::{assert_same, assert_same_in};
 use crate::maps::Slots;
-use crate::verdicts::{Verdict, verdict};
+use crate::verdicts::{Verdict, tried_in};
 use crate::words::{MAGIC, NONE, bytes_of_words, file_of};
 use btree_image::BadImage;
 use btree_item::Fault;
@@ -45,9 +45,14 @@ fn files_are_as_drawn(rt: HostRuntime) -> Result<(), Fail> {
 }
 
 // Checks what comes of a file of these words.
-fn check_file(rt: &impl Abort, alloc: Global, words: &[u64], expected: Verdict) -> Result<(), Fail> {
+fn check_file(
+    rt: &impl Abort,
+    alloc: Global,
+    words: &[u64],
+    expected: Verdict,
+) -> Result<(), Fail> {
     let file = file_of(alloc, words)?;
-    let found = verdict::<Slots>(rt, alloc, alloc, &file)?;
+    let found = tried_in::<Slots>(rt, alloc, alloc, &file)?;
     assert_same(rt, found, expected);
     Ok(())
 }
@@ -85,7 +90,7 @@ fn changed_words_have_their_faults(rt: HostRuntime) -> Result<(), Fail> {
 fn check_front(rt: &impl Abort, alloc: Global, len: usize, expected: Verdict) -> Result<(), Fail> {
     let mut file = file_of(alloc, &ONE_PAIR)?;
     file.truncate(len);
-    let found = verdict::<Slots>(rt, alloc, alloc, &file)?;
+    let found = tried_in::<Slots>(rt, alloc, alloc, &file)?;
     assert_same_in(rt, len, found, expected);
     Ok(())
 }
@@ -112,13 +117,13 @@ fn fronts_have_their_faults(rt: HostRuntime) -> Result<(), Fail> {
 fn ends_have_their_faults(rt: HostRuntime) -> Result<(), Fail> {
     let mut longer = file_of(rt.alloc(), &ONE_PAIR)?;
     longer.push(0)?;
-    let found = verdict::<Slots>(&rt, rt.alloc(), rt.alloc(), &longer)?;
+    let found = tried_in::<Slots>(&rt, rt.alloc(), rt.alloc(), &longer)?;
     assert_same(&rt, found, Verdict::Image(BadImage::Trailing, 96));
     let mut other = file_of(rt.alloc(), &ONE_PAIR)?;
     if let Some(value) = other.get_mut(87) {
         *value = 50;
     }
-    let found = verdict::<Slots>(&rt, rt.alloc(), rt.alloc(), &other)?;
+    let found = tried_in::<Slots>(&rt, rt.alloc(), rt.alloc(), &other)?;
     assert_same(&rt, found, Verdict::Image(BadImage::Sum, 88));
     Ok(())
 }

@@ -76,7 +76,10 @@ fn others_have_their_bytes(rt: HostRuntime) -> Result<(), Fail> {
     check(&rt, alloc, (7u8, (true, -1i16)), &[7, 1, 255, 255])?;
     check(&rt, alloc, [1u8, 2, 3], &[1, 2, 3])?;
     check(&rt, alloc, [0u8; 0], &[])?;
-    let span = Span { end: 258, value: 7u8 };
+    let span = Span {
+        end: 258,
+        value: 7u8,
+    };
     check(&rt, alloc, span, &[0, 0, 0, 0, 0, 0, 1, 2, 7])
 }
 

@@ -204,11 +204,19 @@ type Refused<'m> = SlotStore<Node<u64, u64>, &'m Refusing<Global>>;
 fn memory_for_the_nodes_is_refused(rt: HostRuntime) -> Result<(), Fail> {
     let bytes = saved_squares::<Slots>(rt.alloc(), rt.alloc(), 44)?;
     let memory = Refusing::over(rt.alloc(), 0);
-    assert_same(&rt, open_with::<Refused>(&rt, &memory, &memory, &bytes, 1), Verdict::Store);
+    assert_same(
+        &rt,
+        open_with::<Refused>(&rt, &memory, &memory, &bytes, 1),
+        Verdict::Store,
+    );
     for at in 2..40 {
         open_with::<Refused>(&rt, &memory, &memory, &bytes, at);
     }
-    assert_same(&rt, open_with::<Refused>(&rt, &memory, &memory, &bytes, 40), Verdict::Opened);
+    assert_same(
+        &rt,
+        open_with::<Refused>(&rt, &memory, &memory, &bytes, 40),
+        Verdict::Opened,
+    );
     Ok(())
 }
 

@@ -1,7 +1,7 @@
 //! Maps in a table of their own, which takes the nodes whose numbers it has places for.
 use crate::asserts::assert_same;
 use crate::maps::{Slots, check_squares, saved_squares};
-use crate::verdicts::{Verdict, verdict};
+use crate::verdicts::{Verdict, tried_in};
 use crate::words::{MAGIC, NONE, file_of};
 use btree_map::BTreeMap;
 use btree_more_stores::{Fill, FixedSlab};
@@ -35,18 +35,16 @@ fn maps_move_to_a_table_and_back(rt: HostRuntime) -> Result<(), Fail> {
 }
 
 // The map {7: 49}, whose node has number 5: the five places before it are vacant.
-const AT_FIVE: [u64; 16] = [
-    MAGIC, 1, 5, 1, NONE, 6, 0, 0, 0, 0, 0, 1, NONE, 1, 7, 49,
-];
+const AT_FIVE: [u64; 16] = [MAGIC, 1, 5, 1, NONE, 6, 0, 0, 0, 0, 0, 1, NONE, 1, 7, 49];
 
 #[test]
 fn a_table_refuses_numbers_past_its_end(rt: HostRuntime) -> Result<(), Fail> {
     let file = file_of(rt.alloc(), &AT_FIVE)?;
-    let found = verdict::<Table<6>>(&rt, rt.alloc(), (), &file)?;
+    let found = tried_in::<Table<6>>(&rt, rt.alloc(), (), &file)?;
     assert_same(&rt, found, Verdict::Opened);
-    let found = verdict::<Table<5>>(&rt, rt.alloc(), (), &file)?;
+    let found = tried_in::<Table<5>>(&rt, rt.alloc(), (), &file)?;
     assert_same(&rt, found, Verdict::Store);
-    let found = verdict::<Slots>(&rt, rt.alloc(), rt.alloc(), &file)?;
+    let found = tried_in::<Slots>(&rt, rt.alloc(), rt.alloc(), &file)?;
     assert_same(&rt, found, Verdict::Opened);
     Ok(())
 }

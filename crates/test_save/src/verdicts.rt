@@ -32,7 +32,7 @@ pub(crate) fn verdict_of(error: OpenError) -> Verdict {
 }
 
 /// Opens bytes. A map that is opened is well formed, and is saved as these bytes, so it is no other map than theirs.
-pub(crate) fn verdict<C: Fill<Node<u64, u64>> + Drop>(
+pub(crate) fn tried_in<C: Fill<Node<u64, u64>> + Drop>(
     rt: &impl Abort,
     alloc: Global,
     origin: C::Origin,
