@@ -6,16 +6,15 @@
 #![tactic(auto)]
 
 use anyhow::{Result, bail};
-use btree_save::{SavedMap, bytes_of_map, map_of_bytes};
+use btree_map::BTreeMap;
+use btree_more_stores::{Fill, SlotStore};
+use btree_node::{Node, NodesMut};
+use btree_save::{bytes_of_map, map_of_bytes};
 use std::alloc::{AllocError, Global};
-use std::collections::BTreeMap;
+use std::collections::BTreeMap as KitMap;
 use std::env;
 use std::env::Env;
 use std::time::{Clock, Instant};
-
-type Ours = SavedMap<u64, u64>;
-
-type Kit = BTreeMap<u64, u64>;
 
 // Writes a line about a phase.
 fn report(
@@ -48,7 +47,10 @@ fn make_keys(alloc: Global, count: usize) -> Result<Vec<u64>, AllocError> {
 }
 
 // Inserts each key, with itself as its value.
-fn put_all(map: &mut Ours, keys: &[u64]) -> Result<(), AllocError> {
+fn put_all<C: NodesMut<u64, u64>>(
+    map: &mut BTreeMap<u64, u64, C>,
+    keys: &[u64],
+) -> Result<(), AllocError> {
     for key in keys {
         map.insert(*key, *key)?;
     }
@@ -56,47 +58,54 @@ fn put_all(map: &mut Ours, keys: &[u64]) -> Result<(), AllocError> {
 }
 
 // Inserts the pairs of another map, in order.
-fn put_in_order(map: &mut Ours, from: &Ours) -> Result<(), AllocError> {
-    for (key, value) in from.iter() {
+fn put_in_order<C: NodesMut<u64, u64>>(
+    map: &mut BTreeMap<u64, u64, C>,
+    from: &BTreeMap<u64, u64, C>,
+) -> Result<(), AllocError> {
+    for (key, value) in from {
         map.insert(*key, *value)?;
     }
     Ok(())
 }
 
 // Inserts each key, with itself as its value.
-fn put_all_in_kit(map: &mut Kit, keys: &[u64]) -> Result<(), AllocError> {
+fn put_all_in_kit(map: &mut KitMap<u64, u64>, keys: &[u64]) -> Result<(), AllocError> {
     for key in keys {
         map.insert(*key, *key)?;
     }
     Ok(())
 }
 
-// Times a map that is saved and opened.
-fn measure_saved(
+// Times a map that is saved.
+fn measure_save<C: Fill<Node<u64, u64>, Origin = Global> + Drop>(
     rt: &(impl Print + Clock),
     alloc: Global,
     is_timed: bool,
     keys: &[u64],
-) -> Result<()> {
+) -> Result<Vec<u8>> {
     let since = Instant::now(rt)?;
-    let mut map = Ours::new(alloc);
+    let mut map: BTreeMap<u64, u64, C> = BTreeMap::new(alloc);
     put_all(&mut map, keys)?;
     report(rt, is_timed, "saved.insert", since, (map.len(), 0))?;
     let since = Instant::now(rt)?;
     let bytes = bytes_of_map(alloc, &map)?;
     report(rt, is_timed, "saved.save", since, (map.len(), bytes.len()))?;
+    Ok(bytes)
+}
+
+// Times a map that is opened, and one into which the same pairs are inserted.
+fn measure_open<C: Fill<Node<u64, u64>, Origin = Global> + Drop>(
+    rt: &(impl Print + Clock),
+    alloc: Global,
+    is_timed: bool,
+    bytes: &[u8],
+) -> Result<()> {
     let since = Instant::now(rt)?;
-    let again: Ours = map_of_bytes(alloc, &bytes)?;
-    report(
-        rt,
-        is_timed,
-        "saved.open",
-        since,
-        (again.len(), bytes.len()),
-    )?;
+    let map: BTreeMap<u64, u64, C> = map_of_bytes(alloc, bytes)?;
+    report(rt, is_timed, "saved.open", since, (map.len(), bytes.len()))?;
     let since = Instant::now(rt)?;
-    let mut other = Ours::new(alloc);
-    put_in_order(&mut other, &again)?;
+    let mut other: BTreeMap<u64, u64, C> = BTreeMap::new(alloc);
+    put_in_order(&mut other, &map)?;
     report(
         rt,
         is_timed,
@@ -106,29 +115,47 @@ fn measure_saved(
     )
 }
 
-// Times a map of the kit's std that is written and read as JSON.
-fn measure_json(
+// Times a map of the kit's std that is written as JSON.
+fn measure_write(
     rt: &(impl Print + Clock),
     alloc: Global,
     is_timed: bool,
     keys: &[u64],
-) -> Result<()> {
+) -> Result<String> {
     let since = Instant::now(rt)?;
-    let mut map = Kit::new(alloc);
+    let mut map: KitMap<u64, u64> = KitMap::new(alloc);
     put_all_in_kit(&mut map, keys)?;
     report(rt, is_timed, "std.insert", since, (map.len(), 0))?;
     let since = Instant::now(rt)?;
     let text = serde_json::to_string(alloc, &map)?;
     report(rt, is_timed, "std.to_json", since, (map.len(), text.len()))?;
+    Ok(text)
+}
+
+// Times a map of the kit's std that is read from JSON.
+fn measure_read(
+    rt: &(impl Print + Clock),
+    alloc: Global,
+    is_timed: bool,
+    text: &str,
+) -> Result<()> {
     let since = Instant::now(rt)?;
-    let again: Kit = serde_json::from_str(alloc, text.as_str())?;
+    let map: KitMap<u64, u64> = serde_json::from_str(alloc, text)?;
     report(
         rt,
         is_timed,
         "std.from_json",
         since,
-        (again.len(), text.len()),
+        (map.len(), text.len()),
     )
+}
+
+// Times both.
+fn measure(rt: &(impl Print + Clock), alloc: Global, is_timed: bool, keys: &[u64]) -> Result<()> {
+    let bytes = measure_save::<SlotStore<Node<u64, u64>>>(rt, alloc, is_timed, keys)?;
+    measure_open::<SlotStore<Node<u64, u64>>>(rt, alloc, is_timed, &bytes)?;
+    let text = measure_write(rt, alloc, is_timed, keys)?;
+    measure_read(rt, alloc, is_timed, text.as_str())
 }
 
 fn main(rt: HostRuntime) -> Result<()> {
@@ -141,6 +168,5 @@ fn main(rt: HostRuntime) -> Result<()> {
         bail!("no pairs");
     }
     let keys = make_keys(rt.alloc(), count)?;
-    measure_saved(&rt, rt.alloc(), is_timed, &keys)?;
-    measure_json(&rt, rt.alloc(), is_timed, &keys)
+    measure(&rt, rt.alloc(), is_timed, &keys)
 }

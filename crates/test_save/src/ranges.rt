@@ -3,7 +3,7 @@ use crate::asserts::{assert_same, assert_true};
 use crate::words::{MAGIC, NONE, file_of};
 use btree_map::BTreeMap;
 use btree_more_stores::{Fill, SlotStore};
-use btree_node::Node;
+use btree_node::{Node, NodesMut};
 use btree_range_map::{RangeMap, Span};
 use btree_range_set::RangeSet;
 use btree_save::{bytes_of_map, map_of_bytes};
@@ -98,13 +98,11 @@ fn ranges_that_touch_are_no_set(rt: HostRuntime) -> Result<(), Fail> {
     check_returned::<Ends>(&rt, rt.alloc(), &file)
 }
 
-// Checks that bytes are those of a map of these ranges.
-fn check_spans<C: Fill<Node<u64, Span<u8>>> + Drop>(
+// Checks that an ordered map is that of these ranges.
+fn check_spans<C: NodesMut<u64, Span<u8>> + Drop>(
     rt: &impl Abort,
-    origin: C::Origin,
-    bytes: &[u8],
-) -> Result<(), Fail> {
-    let map: BTreeMap<u64, Span<u8>, C> = map_of_bytes(origin, bytes)?;
+    map: BTreeMap<u64, Span<u8>, C>,
+) {
     match RangeMap::from_map(map) {
         Ok(again) => {
             assert_same(rt, again.len(), 3);
@@ -120,7 +118,6 @@ fn check_spans<C: Fill<Node<u64, Span<u8>>> + Drop>(
         }
         Err(_map) => panic!(rt; "no map of ranges"),
     }
-    Ok(())
 }
 
 // Saves a map of ranges and opens it.
@@ -133,7 +130,9 @@ fn save_range_map<C: Fill<Node<u64, Span<u8>>, Origin = Global> + Drop>(
         assert_true(rt, map.insert(start, end, value).is_ok());
     }
     let bytes = bytes_of_map(alloc, map.as_map())?;
-    check_spans::<C>(rt, alloc, &bytes)
+    let again: BTreeMap<u64, Span<u8>, C> = map_of_bytes(alloc, &bytes)?;
+    check_spans(rt, again);
+    Ok(())
 }
 
 #[test]
