@@ -1,0 +1,45 @@
+//! A stock of parts, by their numbers.
+ghost use Rattle.std.specs.Prelude.{◌↔◌, IsTrue};
+ghost use Rattle.btree_slab.specs.TreeState.{IsOccupiedIn};
+
+use crate::part::Part;
+use anyhow::{Context, Result};
+use btree_save::SavedMap;
+use btree_slab::{Address, BTreeExt, BTreeExtMut};
+use std::alloc::Global;
+
+/// Parts by their numbers.
+pub type Stock = SavedMap<u32, Part>;
+
+// Puts the part of a line as `408 20 5` into a stock: its number, how many there are, and what one weighs.
+fn put_line(stock: &mut Stock, line: &str) -> Result<()> {
+    let (number, rest) = line.split_once(' ').context("a line has no count")?;
+    let (count, grams) = rest.split_once(' ').context("a line has no weight")?;
+    let part = Part {
+        count: count.parse::<u32>()?,
+        grams: grams.parse::<u32>()?,
+    };
+    stock.insert(number.parse::<u32>()?, part)?;
+    Ok(())
+}
+
+/// Reads a stock from a text with a line for each part.
+pub fn read_stock(alloc: Global, text: &str) -> Result<Stock> {
+    let mut stock = Stock::new(alloc);
+    for line in text.lines() {
+        put_line(&mut stock, line)?;
+    }
+    Ok(stock)
+}
+
+/// Sets how many there are of the part at an address. Returns whether a part is there.
+pub fn recount(stock: &mut Stock, at: Address, count: u32) -> bool
+    ensures { IsTrue result ↔ IsOccupiedIn stock.old at }
+{
+    let Some(item) = stock.item(at) else {
+        return false;
+    };
+    let grams = item.value().grams;
+    stock.replace_value_at(at, Part { count, grams });
+    true
+}

@@ -1,0 +1,138 @@
+//! Bytes that no one saved.
+use crate::asserts::{assert_same, assert_true};
+use crate::maps::{Slots, saved_squares};
+use crate::verdicts::{Tally, Verdict, tried_in};
+use crate::words::{MAGIC, add_sum, bytes_of_words};
+use btree_image::BadImage;
+use std::alloc::{AllocError, Global};
+use std::process::Abort;
+use std::test::Fail;
+
+/// A step of a sequence of numbers without a pattern.
+pub(crate) fn next(state: u64) -> u64 {
+    state
+        .wrapping_mul(6364136223846793005)
+        .wrapping_add(1442695040888963407)
+}
+
+// Returns the bytes of a map with many nodes.
+fn good_bytes(alloc: Global) -> Result<Vec<u8>, Fail> {
+    saved_squares::<Slots>(alloc, alloc, 44)
+}
+
+// Writes the check sum of all bytes but the last eight over these.
+fn sum_anew(bytes: &mut Vec<u8>) -> Result<(), AllocError> {
+    let len = bytes.len().saturating_sub(8);
+    bytes.truncate(len);
+    add_sum(bytes)
+}
+
+// Opens bytes in slots.
+fn tried(rt: &impl Abort, alloc: Global, bytes: &[u8]) -> Result<Verdict, Fail> {
+    tried_in::<Slots>(rt, alloc, alloc, bytes)
+}
+
+// Changes a byte. With the old check sum the bytes are no image, and with the right one they may be.
+fn change(
+    rt: &impl Abort,
+    alloc: Global,
+    bytes: &[u8],
+    (at, mask): (usize, u8),
+) -> Result<Verdict, Fail> {
+    let mut other = bytes.to_vec(alloc)?;
+    if let Some(byte) = other.get_mut(at) {
+        *byte ^= mask;
+    }
+    match tried(rt, alloc, &other)? {
+        Verdict::Image(_, _) => {}
+        _ => panic!(rt; "another byte is not seen"),
+    }
+    sum_anew(&mut other)?;
+    tried(rt, alloc, &other)
+}
+
+// Each byte is changed three ways.
+#[test]
+fn each_byte_is_changed(rt: HostRuntime) -> Result<(), Fail> {
+    let bytes = good_bytes(rt.alloc())?;
+    let mut tally = Tally::NONE;
+    for at in 0..bytes.len() {
+        for mask in [1, 128, 255] {
+            tally.count(&rt, change(&rt, rt.alloc(), &bytes, (at, mask))?);
+        }
+    }
+    assert_true(&rt, tally.opened > 0);
+    assert_true(&rt, tally.images > 0);
+    assert_true(&rt, tally.trees > 0);
+    Ok(())
+}
+
+// Checks that bytes are no image.
+fn check_no_image(rt: &impl Abort, alloc: Global, bytes: &[u8]) -> Result<(), Fail> {
+    match tried(rt, alloc, bytes)? {
+        Verdict::Image(_, at) => assert_true(rt, at <= bytes.len()),
+        _ => panic!(rt; "an image"),
+    }
+    Ok(())
+}
+
+// Returns bytes with one of them doubled.
+fn doubled(alloc: Global, front: &[u8], rest: &[u8]) -> Result<Vec<u8>, AllocError> {
+    let mut bytes = front.to_vec(alloc)?;
+    if let Some(byte) = rest.first() {
+        bytes.push(*byte)?;
+    }
+    bytes.extend_from_slice(rest)?;
+    Ok(bytes)
+}
+
+// Each front is no image, and neither is a list with a byte doubled, nor a file twice.
+#[test]
+fn fronts_and_doubled_bytes(rt: HostRuntime) -> Result<(), Fail> {
+    let bytes = good_bytes(rt.alloc())?;
+    for at in 0..bytes.len() {
+        let (front, rest) = bytes.split_at(at);
+        check_no_image(&rt, rt.alloc(), front)?;
+        check_no_image(&rt, rt.alloc(), &doubled(rt.alloc(), front, rest)?)?;
+    }
+    Ok(())
+}
+
+#[test]
+fn a_file_twice(rt: HostRuntime) -> Result<(), Fail> {
+    let mut twice = good_bytes(rt.alloc())?;
+    let len = twice.len();
+    let more = good_bytes(rt.alloc())?;
+    twice.extend_from_slice(&more)?;
+    let found = tried(&rt, rt.alloc(), &twice)?;
+    assert_same(&rt, found, Verdict::Image(BadImage::Trailing, len));
+    Ok(())
+}
+
+// Returns a file of words without a pattern, most of them small, after a head that is right.
+fn random_file(alloc: Global, list: u64) -> Result<Vec<u8>, AllocError> {
+    let mut bytes = bytes_of_words(alloc, &[MAGIC, 1])?;
+    let mut state = list;
+    for _ in 0..list % 40 {
+        state = next(state);
+        let word = match (state >> 33) % 8 {
+            7 => u64::MAX,
+            small => small % 4,
+        };
+        bytes.extend_from_slice(&word.to_be_bytes())?;
+    }
+    add_sum(&mut bytes)?;
+    Ok(bytes)
+}
+
+#[test]
+fn random_words(rt: HostRuntime) -> Result<(), Fail> {
+    let mut tally = Tally::NONE;
+    for list in 0..2000 {
+        let bytes = random_file(rt.alloc(), list)?;
+        tally.count(&rt, tried(&rt, rt.alloc(), &bytes)?);
+    }
+    assert_true(&rt, tally.images > 0);
+    assert_true(&rt, tally.trees > 0);
+    Ok(())
+}

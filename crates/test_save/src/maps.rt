@@ -1,0 +1,77 @@
+//! Maps to save, and checks that two maps are the same.
+use crate::asserts::assert_same;
+use btree_map::BTreeMap;
+use btree_more_stores::SlotStore;
+use btree_node::{Node, NodesMut};
+use btree_save::bytes_of_map;
+use std::alloc::Global;
+use std::fmt::Debug;
+use std::process::Abort;
+use std::test::Fail;
+
+/// The nodes of a map of numbers, in slots.
+pub(crate) type Slots = SlotStore<Node<u64, u64>>;
+
+/// Returns the map of the numbers below `count`, each with its square, put in an order of their own, without every third.
+pub(crate) fn squares<C: NodesMut<u64, u64> + Drop>(
+    origin: C::Origin,
+    count: u64,
+) -> Result<BTreeMap<u64, u64, C>, Fail> {
+    let mut map: BTreeMap<u64, u64, C> = BTreeMap::new(origin);
+    for i in 0..count {
+        let key = i.wrapping_mul(7) % count;
+        map.insert(key, key.wrapping_mul(key))?;
+    }
+    for i in 0..count {
+        if i % 3 == 0 {
+            map.remove(&i);
+        }
+    }
+    Ok(map)
+}
+
+/// Returns the bytes of such a map.
+pub(crate) fn saved_squares<C: NodesMut<u64, u64> + Drop>(
+    alloc: Global,
+    origin: C::Origin,
+    count: u64,
+) -> Result<Vec<u8>, Fail> {
+    let map = squares::<C>(origin, count)?;
+    Ok(bytes_of_map(alloc, &map)?)
+}
+
+/// Checks that a map is that of the squares below `count`.
+pub(crate) fn check_squares<C: NodesMut<u64, u64>>(
+    rt: &impl Abort,
+    map: &BTreeMap<u64, u64, C>,
+    count: u64,
+) {
+    let mut left = map.len();
+    for key in 0..count {
+        let found = map.get(&key).copied();
+        if key % 3 == 0 {
+            assert_same(rt, found, None);
+        } else {
+            assert_same(rt, found, Some(key.wrapping_mul(key)));
+            left = left.wrapping_sub(1);
+        }
+    }
+    assert_same(rt, left, 0);
+}
+
+/// Checks that two maps have the same pairs, in the same order.
+pub(crate) fn check_same<
+    K: Ord + Copy + Debug + Drop,
+    V: PartialEq + Copy + Debug + Drop,
+    C: NodesMut<K, V>,
+    D: NodesMut<K, V>,
+>(rt: &impl Abort, left: &BTreeMap<K, V, C>, right: &BTreeMap<K, V, D>) {
+    let mut rest = right.iter();
+    for (key, value) in left {
+        match rest.next() {
+            Some((other, of_other)) => assert_same(rt, (*other, *of_other), (*key, *value)),
+            None => panic!(rt; "fewer pairs"),
+        }
+    }
+    assert_same(rt, right.len(), left.len());
+}

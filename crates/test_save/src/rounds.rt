@@ -1,0 +1,90 @@
+//! Maps that are saved and opened.
+use crate::asserts::{assert_same, assert_true};
+use crate::maps::{Slots, check_squares, squares};
+use btree_ext::{BTreeExt, BTreeExtMut};
+use btree_item::Address;
+use btree_map::BTreeMap;
+use btree_more_stores::Fill;
+use btree_node::{Node, NodesMut};
+use btree_save::{bytes_of_map, map_of_bytes, open, save};
+use std::alloc::Global;
+use std::io::Cursor;
+use std::process::Abort;
+use std::test::Fail;
+
+// Checks that two maps have the same nodes at the top, and each of these keys at the same address.
+fn check_addresses<C: NodesMut<u64, u64>>(
+    rt: &impl Abort,
+    left: &BTreeMap<u64, u64, C>,
+    right: &BTreeMap<u64, u64, C>,
+    count: u64,
+) {
+    assert_same(rt, right.root_id(), left.root_id());
+    assert_same(rt, right.height(), left.height());
+    assert_same(rt, right.node_count(), left.node_count());
+    for key in 0..count {
+        assert_same(rt, right.address_of(&key), left.address_of(&key));
+    }
+}
+
+// Saves a map and opens it. It is the same, and is saved as the same bytes.
+fn check_round<C: Fill<Node<u64, u64>, Origin = Global> + Drop>(
+    rt: &impl Abort,
+    alloc: Global,
+    count: u64,
+) -> Result<(), Fail> {
+    let map = squares::<C>(alloc, count)?;
+    let bytes = bytes_of_map(alloc, &map)?;
+    let again: BTreeMap<u64, u64, C> = map_of_bytes(alloc, &bytes)?;
+    check_squares(rt, &again, count);
+    check_addresses(rt, &map, &again, count);
+    let twice = bytes_of_map(alloc, &again)?;
+    assert_same(rt, twice.as_slice(), bytes.as_slice());
+    Ok(())
+}
+
+#[test]
+fn opens_what_was_saved(rt: HostRuntime) -> Result<(), Fail> {
+    for count in [0, 1, 9, 44, 300] {
+        check_round::<Slots>(&rt, rt.alloc(), count)?;
+    }
+    Ok(())
+}
+
+// A map goes on after it was opened: at an address that was kept, and with insertions.
+fn go_on<C: NodesMut<u64, u64> + Drop>(
+    rt: &impl Abort,
+    mut map: BTreeMap<u64, u64, C>,
+    at: Address,
+) -> Result<(), Fail> {
+    assert_true(rt, map.is_valid(at));
+    match map.item(at) {
+        Some(item) => assert_same(rt, (*item.key(), *item.value()), (7, 49)),
+        None => panic!(rt; "no pair there"),
+    }
+    for key in 0..500u64 {
+        map.insert(key, key)?;
+    }
+    assert_same(rt, map.len(), 500);
+    assert_true(rt, map.validate().is_ok());
+    Ok(())
+}
+
+// Saves a map to a writer and opens it from a reader.
+fn save_and_go_on<C: Fill<Node<u64, u64>, Origin = Global> + Drop>(
+    rt: &impl Abort,
+    alloc: Global,
+) -> Result<(), Fail> {
+    let map = squares::<C>(alloc, 44)?;
+    let at = map.address_of(&7).ok().ok_or("7 is there")?;
+    let mut file = Vec::new(alloc);
+    save(alloc, &map, &mut file)?;
+    let mut input = Cursor::new(file.as_slice());
+    let again: BTreeMap<u64, u64, C> = open(alloc, alloc, &mut input)?;
+    go_on(rt, again, at)
+}
+
+#[test]
+fn goes_on_at_a_kept_address(rt: HostRuntime) -> Result<(), Fail> {
+    save_and_go_on::<Slots>(&rt, rt.alloc())
+}

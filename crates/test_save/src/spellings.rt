@@ -1,0 +1,94 @@
+//! The bytes of the types that are saved. Each list is written by hand.
+use crate::asserts::{assert_same, assert_true};
+use btree_range_map::Span;
+use btree_spelled::Spelled;
+use std::alloc::Global;
+use std::fmt::Debug;
+use std::process::Abort;
+use std::test::Fail;
+
+// Checks that a value has these bytes, that they are read as it before others, and that no front of them is read.
+fn check<T: Spelled + PartialEq + Debug>(
+    rt: &impl Abort,
+    alloc: Global,
+    value: T,
+    bytes: &[u8],
+) -> Result<(), Fail> {
+    let mut written = Vec::new(alloc);
+    value.put(&mut written)?;
+    assert_same(rt, written.as_slice(), bytes);
+    written.push(9)?;
+    match T::take(&written) {
+        Some((again, rest)) => {
+            assert_same(rt, again, value);
+            assert_same(rt, rest, [9].as_slice());
+        }
+        None => panic!(rt; "not read"),
+    }
+    check_fronts::<T>(rt, bytes);
+    Ok(())
+}
+
+// Checks that no front of bytes is read.
+fn check_fronts<T: Spelled>(rt: &impl Abort, bytes: &[u8]) {
+    for len in 0..bytes.len() {
+        assert_true(rt, T::take(&bytes[..len]).is_none());
+    }
+}
+
+#[test]
+fn numbers_have_their_bytes(rt: HostRuntime) -> Result<(), Fail> {
+    let alloc = rt.alloc();
+    check(&rt, alloc, 200u8, &[200])?;
+    check(&rt, alloc, 0x0102u16, &[1, 2])?;
+    check(&rt, alloc, 0x0102_0304u32, &[1, 2, 3, 4])?;
+    let eight = [1, 2, 3, 4, 5, 6, 7, 8];
+    check(&rt, alloc, 0x0102_0304_0506_0708u64, &eight)?;
+    check(&rt, alloc, 258usize, &[0, 0, 0, 0, 0, 0, 1, 2])?;
+    let sixteen = [0, 0, 0, 0, 0, 0, 0, 7, 8, 9, 10, 11, 12, 13, 14, 15];
+    check(&rt, alloc, 0x07_0809_0a0b_0c0d_0e0fu128, &sixteen)
+}
+
+#[test]
+fn signed_numbers_have_their_bytes(rt: HostRuntime) -> Result<(), Fail> {
+    let alloc = rt.alloc();
+    check(&rt, alloc, -1i8, &[255])?;
+    check(&rt, alloc, i8::MIN, &[128])?;
+    check(&rt, alloc, -2i16, &[255, 254])?;
+    check(&rt, alloc, 258i16, &[1, 2])?;
+    check(&rt, alloc, i32::MIN, &[128, 0, 0, 0])?;
+    check(&rt, alloc, -1i64, &[255; 8])?;
+    let most = [127, 255, 255, 255, 255, 255, 255, 255];
+    check(&rt, alloc, i64::MAX, &most)?;
+    let below = [255, 255, 255, 255, 255, 255, 255, 254];
+    check(&rt, alloc, -2isize, &below)?;
+    check(&rt, alloc, -1i128, &[255; 16])
+}
+
+#[test]
+fn others_have_their_bytes(rt: HostRuntime) -> Result<(), Fail> {
+    let alloc = rt.alloc();
+    check(&rt, alloc, true, &[1])?;
+    check(&rt, alloc, false, &[0])?;
+    check(&rt, alloc, (), &[])?;
+    check(&rt, alloc, 'A', &[0, 0, 0, 65])?;
+    check(&rt, alloc, '\u{10ffff}', &[0, 0x10, 255, 255])?;
+    check(&rt, alloc, (7u8, (true, -1i16)), &[7, 1, 255, 255])?;
+    check(&rt, alloc, [1u8, 2, 3], &[1, 2, 3])?;
+    check(&rt, alloc, [0u8; 0], &[])?;
+    let span = Span {
+        end: 258,
+        value: 7u8,
+    };
+    check(&rt, alloc, span, &[0, 0, 0, 0, 0, 0, 1, 2, 7])
+}
+
+// Bytes that no value has: a third boolean, and codes within the gap of the characters and past their end.
+#[test]
+fn some_bytes_are_no_value(rt: HostRuntime) {
+    assert_true(&rt, bool::take(&[2]).is_none());
+    for code in [[0, 0, 0xd8, 0], [0, 0, 0xdf, 255], [0, 0x11, 0, 0]] {
+        assert_true(&rt, char::take(&code).is_none());
+    }
+    assert_true(&rt, char::take(&[0, 0, 0xe0, 0]).is_some());
+}
