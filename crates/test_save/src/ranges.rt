@@ -106,7 +106,7 @@ fn check_spans<C: NodesMut<u64, Span<u8>>>(rt: &impl Abort, map: &BTreeMap<u64, 
     assert_same(rt, map.len(), 3);
 }
 
-// Saves a map of ranges and opens the map behind it.
+// Saves a map of ranges, opens the map behind it, and gives it to a map of ranges.
 fn save_range_map<C: Fill<Node<u64, Span<u8>>, Origin = Global> + Drop>(
     rt: &impl Abort,
     alloc: Global,
@@ -116,8 +116,11 @@ fn save_range_map<C: Fill<Node<u64, Span<u8>>, Origin = Global> + Drop>(
         assert_true(rt, map.insert(start, end, value).is_ok());
     }
     let bytes = bytes_of_map(alloc, map.as_map())?;
-    let again: BTreeMap<u64, Span<u8>, C> = map_of_bytes(alloc, &bytes)?;
+    let mut again: BTreeMap<u64, Span<u8>, C> = map_of_bytes(alloc, &bytes)?;
     check_spans(rt, &again);
+    let mut taken: RangeMap<u8, C> = RangeMap::new(alloc);
+    assert_true(rt, taken.swap_map(&mut again));
+    check_spans(rt, taken.as_map());
     Ok(())
 }
 
