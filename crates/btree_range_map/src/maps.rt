@@ -60,11 +60,10 @@ impl<V: Clone + Eq, C: NodesMut<u64, Span<V>>> RangeMap<V, C> {
         ensures unchanged { IsFalse result → (self.new ≡ self.old) × (map.new ≡ map.old) }
     {
         let own = &mut self.map;
-        if are_runs(over(map)) {
-            mem::swap(own, map);
-            true
-        } else {
-            false
+        if !are_runs(over(map)) {
+            return false;
         }
+        mem::swap(own, map);
+        true
     }
 }
