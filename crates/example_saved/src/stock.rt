@@ -1,6 +1,6 @@
 //! A stock of parts, by their numbers.
-ghost use Rattle.std.specs.Prelude.{◌↔◌, IsTrue};
-ghost use Rattle.btree_slab.specs.TreeState.{IsOccupiedIn};
+ghost use Rattle.std.specs.Prelude.{◌≡◌, ◌↔◌, IsTrue, OnErr};
+ghost use Rattle.btree_slab.specs.TreeState.{IsOccupiedIn, pairs_of};
 
 use crate::part::Part;
 use anyhow::{Context, Result};
@@ -11,8 +11,10 @@ use std::alloc::Global;
 /// Parts by their numbers.
 pub type Stock = SavedMap<u32, Part>;
 
-// Puts the part of a line as `408 20 5` into a stock: its number, how many there are, and what one weighs.
-fn put_line(stock: &mut Stock, line: &str) -> Result<()> {
+// Puts the part of a line as `408 20 5` into a stock: its number, how many there are, and what one weighs. A bad line changes nothing.
+fn put_line(stock: &mut Stock, line: &str) -> Result<()>
+    ensures { OnErr result (pairs_of stock.new ≡ pairs_of stock.old) }
+{
     let (number, rest) = line.split_once(' ').context("a line has no count")?;
     let (count, grams) = rest.split_once(' ').context("a line has no weight")?;
     let part = Part {

@@ -51,15 +51,27 @@ fn change(
     tried(rt, alloc, &other)
 }
 
-// Each byte is changed three ways.
+// Changes a byte in three ways.
+fn change_thrice(
+    rt: &impl Abort,
+    alloc: Global,
+    bytes: &[u8],
+    at: usize,
+    tally: &mut Tally,
+) -> Result<(), Fail> {
+    for mask in [1, 128, 255] {
+        tally.count(rt, change(rt, alloc, bytes, (at, mask))?);
+    }
+    Ok(())
+}
+
+// Each byte is changed in three ways.
 #[test]
 fn each_byte_is_changed(rt: HostRuntime) -> Result<(), Fail> {
     let bytes = good_bytes(rt.alloc())?;
     let mut tally = Tally::NONE;
     for at in 0..bytes.len() {
-        for mask in [1, 128, 255] {
-            tally.count(&rt, change(&rt, rt.alloc(), &bytes, (at, mask))?);
-        }
+        change_thrice(&rt, rt.alloc(), &bytes, at, &mut tally)?;
     }
     assert_true(&rt, tally.opened > 0);
     assert_true(&rt, tally.images > 0);

@@ -23,12 +23,9 @@ fn drawn_id(state: u64) -> u64 {
 
 // Appends a leaf with three items.
 fn put_leaf(bytes: &mut Vec<u8>, parent: u64, least: u64) -> Result<(), AllocError> {
-    for word in [1, parent, 3] {
+    let (second, third) = (least.wrapping_add(1), least.wrapping_add(2));
+    for word in [1, parent, 3, least, 0, second, 0, third, 0] {
         put(bytes, word)?;
-    }
-    for key in [least, least.wrapping_add(1), least.wrapping_add(2)] {
-        put(bytes, key)?;
-        put(bytes, 0)?;
     }
     Ok(())
 }

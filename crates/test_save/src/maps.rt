@@ -12,8 +12,8 @@ use std::test::Fail;
 /// The nodes of a map of numbers, in slots.
 pub(crate) type Slots = SlotStore<Node<u64, u64>>;
 
-/// Returns the map of the numbers below `count`, each with its square, put in an order of their own, without every third.
-pub(crate) fn squares<C: NodesMut<u64, u64> + Drop>(
+// Returns the map of the numbers below `count`, each with its square, put in an order of their own.
+fn all_squares<C: NodesMut<u64, u64> + Drop>(
     origin: C::Origin,
     count: u64,
 ) -> Result<BTreeMap<u64, u64, C>, Fail> {
@@ -22,6 +22,15 @@ pub(crate) fn squares<C: NodesMut<u64, u64> + Drop>(
         let key = i.wrapping_mul(7) % count;
         map.insert(key, key.wrapping_mul(key))?;
     }
+    Ok(map)
+}
+
+/// Returns the map of the numbers below `count` without every third, each with its square. It had all of them before.
+pub(crate) fn squares<C: NodesMut<u64, u64> + Drop>(
+    origin: C::Origin,
+    count: u64,
+) -> Result<BTreeMap<u64, u64, C>, Fail> {
+    let mut map = all_squares::<C>(origin, count)?;
     for i in 0..count {
         if i % 3 == 0 {
             map.remove(&i);

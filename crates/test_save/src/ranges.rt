@@ -12,6 +12,14 @@ use std::alloc::Global;
 use std::process::Abort;
 use std::test::Fail;
 
+// Checks that a set has the numbers below a hundred.
+fn check_hundred<C: NodesMut<u64, ()>>(rt: &impl Abort, set: &BTreeSet<u64, C>) {
+    for element in 0..100u64 {
+        assert_true(rt, set.contains(&element));
+    }
+    assert_same(rt, set.len(), 100);
+}
+
 // Saves a set of numbers and opens it.
 fn save_set<C: Fill<Node<u64, ()>, Origin = Global> + Drop>(
     rt: &impl Abort,
@@ -23,11 +31,7 @@ fn save_set<C: Fill<Node<u64, ()>, Origin = Global> + Drop>(
     }
     let bytes = bytes_of_map(alloc, set.as_map())?;
     let map: BTreeMap<u64, (), C> = map_of_bytes(alloc, &bytes)?;
-    let again = BTreeSet::from_map(map);
-    for element in 0..100u64 {
-        assert_true(rt, again.contains(&element));
-    }
-    assert_same(rt, again.len(), 100);
+    check_hundred(rt, &BTreeSet::from_map(map));
     Ok(())
 }
 
