@@ -35,10 +35,10 @@ fn check_pairs<C: NodesMut<u64, Span<u64>>>(
 // Checks that a map of two ranges takes these, and gives the two.
 fn check_taken<C: ClearNodes<u64, Span<u64>> + Drop>(
     rt: &impl Abort,
-    origins: [C::Origin; 2],
+    own: C::Origin,
+    other: C::Origin,
     ranges: Ranges,
 ) {
-    let [own, other] = origins;
     let mut two: RangeMap<u64, C> = RangeMap::new(own);
     let mut map: BTreeMap<u64, Span<u64>, C> = BTreeMap::new(other);
     fill(rt, &mut two, TWO);
@@ -52,10 +52,10 @@ fn check_taken<C: ClearNodes<u64, Span<u64>> + Drop>(
 // Checks that it takes none of these, and keeps its own.
 fn check_left<C: ClearNodes<u64, Span<u64>> + Drop>(
     rt: &impl Abort,
-    origins: [C::Origin; 2],
+    own: C::Origin,
+    other: C::Origin,
     ranges: Ranges,
 ) {
-    let [own, other] = origins;
     let mut two: RangeMap<u64, C> = RangeMap::new(own);
     let mut map: BTreeMap<u64, Span<u64>, C> = BTreeMap::new(other);
     fill(rt, &mut two, TWO);
@@ -67,24 +67,26 @@ fn check_left<C: ClearNodes<u64, Span<u64>> + Drop>(
 
 #[test]
 fn takes_maps_of_ranges(rt: HostRuntime) {
-    check_taken::<Heap>(&rt, [rt.alloc(), rt.alloc()], &[]);
-    check_taken::<Heap>(&rt, [rt.alloc(), rt.alloc()], &[(0, u64::MAX, 7)]);
+    check_taken::<Heap>(&rt, rt.alloc(), rt.alloc(), &[]);
+    check_taken::<Heap>(&rt, rt.alloc(), rt.alloc(), &[(0, u64::MAX, 7)]);
     check_taken::<Heap>(
         &rt,
-        [rt.alloc(), rt.alloc()],
+        rt.alloc(),
+        rt.alloc(),
         &[(0, 1, 7), (1, 5, 8), (7, 8, 8)],
     );
 }
 
 #[test]
 fn takes_no_other_maps(rt: HostRuntime) {
-    check_left::<Heap>(&rt, [rt.alloc(), rt.alloc()], &[(3, 3, 7)]);
-    check_left::<Heap>(&rt, [rt.alloc(), rt.alloc()], &[(4, 2, 7)]);
+    check_left::<Heap>(&rt, rt.alloc(), rt.alloc(), &[(3, 3, 7)]);
+    check_left::<Heap>(&rt, rt.alloc(), rt.alloc(), &[(4, 2, 7)]);
     check_left::<Heap>(
         &rt,
-        [rt.alloc(), rt.alloc()],
+        rt.alloc(),
+        rt.alloc(),
         &[(0, 1, 7), (2, 5, 8), (5, 8, 8)],
     );
-    check_left::<Heap>(&rt, [rt.alloc(), rt.alloc()], &[(0, 3, 7), (2, 5, 8)]);
-    check_left::<Heap>(&rt, [rt.alloc(), rt.alloc()], &[(0, 1, 7), (7, 7, 8)]);
+    check_left::<Heap>(&rt, rt.alloc(), rt.alloc(), &[(0, 3, 7), (2, 5, 8)]);
+    check_left::<Heap>(&rt, rt.alloc(), rt.alloc(), &[(0, 1, 7), (7, 7, 8)]);
 }
