@@ -11,6 +11,8 @@ use Rattle.btree_image.specs.Saved.{AreOnlyBytesOf, IsSavedAs, LacksNode, LacksR
 use Rattle.btree_spelled.specs.Spelled.{Read}
 use Rattle.btree_save.specs.declared.error.OpenError.{OpenError}
 use Rattle.btree_save.specs.declared.error.OpenError.TheVariants as errors
+use Rattle.btree_save.specs.declared.error.SaveError.{SaveError}
+use Rattle.btree_save.specs.declared.error.SaveError.TheVariants as saves
 
 module _ {K V : Type 0} (read_key : Read K) (read_value : Read V) where
   -- the first fault of the bytes, and the place of the field that has it
@@ -71,3 +73,8 @@ module _ {K V : Type 0} (read_key : Read K) (read_value : Read V) where
     pub appended : Appends before after bytes
     pub saved : IsSavedAs read_key read_value s bytes
     pub only : AreOnlyBytesOf read_key read_value s bytes
+
+-- where there is no memory for the bytes, the writer got none
+abbrev pub IsUnwritten : (before after : Option (List ℕ)) → SaveError → Type 0
+IsUnwritten before after saves.Memory = after ≡ before
+IsUnwritten before after (saves.Write e) = Unit {0}

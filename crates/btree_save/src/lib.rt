@@ -4,6 +4,7 @@
 mod error;
 mod map;
 
+pub use btree_image::BadImage;
 pub use btree_spelled::Spelled;
 pub use error::{OpenError, SaveError};
 pub use map::{SavedMap, bytes_of_map, map_of_bytes, open, save};

@@ -6,7 +6,7 @@ ghost use Rattle.btree_node.specs.contracts.node.Node.{the_row as node_row};
 ghost use Rattle.btree_laws.specs.TreeState.{TreeState};
 ghost use Rattle.btree_raw.specs.Limit.{IsBTreeWithinLimit};
 ghost use Rattle.btree_image.specs.Saved.{AreOnlyBytesOf, IsSavedAs};
-ghost use Rattle.btree_save.specs.Opened.{IsErrorFrom, IsOpenedFrom, IsRefusedBy, IsWrittenTo, Opens, OpensFrom};
+ghost use Rattle.btree_save.specs.Opened.{IsErrorFrom, IsOpenedFrom, IsRefusedBy, IsUnwritten, IsWrittenTo, Opens, OpensFrom};
 
 use crate::error::{OpenError, SaveError, of_read};
 use btree_ext::BTreeExt;
@@ -61,7 +61,7 @@ fn map_in_store<K: Spelled + Ord, V: Spelled, C: Fill<Node<K, V>> + Drop>(
 /// It opens the bytes of each well formed tree within its limit, unless the store may have no room for the number of a node: a table of N
 /// nodes opens those whose nodes have numbers below N.
 ///
-/// It reads each byte twice, and each node once more. For each eight bytes it takes room for at most one node.
+/// It reads each byte twice, and each node once more. For each eight bytes it takes room for at most three nodes and their numbers.
 pub fn map_of_bytes<K: Spelled + Ord, V: Spelled, C: Fill<Node<K, V>> + Drop>(
     origin: C::Origin,
     bytes: &[u8],
@@ -84,7 +84,9 @@ pub fn save<K: Spelled + Ord, V: Spelled, C: NodesMut<K, V>, A: Allocator, W: Wr
     map: &BTreeMap<K, V, C>,
     out: &mut W,
 ) -> Result<(), SaveError>
-    ensures { OnOk result (IsWrittenTo K.read V.read (W.contents out.old) (W.contents out.new) map.now) }
+    ensures written { OnOk result
+        (IsWrittenTo K.read V.read (W.contents out.old) (W.contents out.new) map.now) }
+    ensures unwritten { IfErr result (IsUnwritten (W.contents out.old) (W.contents out.new)) }
 {
     let bytes = bytes_of_map(alloc, map)?;
     match out.write_all(&bytes) {
