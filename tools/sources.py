@@ -15,6 +15,7 @@ USUAL = {
 FUNCTION = re.compile(r"^( *)(pub(?:\([\w:]+\))? )?(?:const |unsafe )*fn (\w+)")
 OPENS = re.compile(r"^(?:pub )?(trait|impl)\b(.*)$")
 ALIAS = re.compile(r"^pub type (\w+)[^=]* = (\w+)", re.M)
+MOST_SHOWN = 240
 WORD = re.compile(r"^( *)(?:abbrev pub|pub record|pub data) (\S+) (.*)$")
 
 
@@ -140,6 +141,24 @@ def fields_of(path, word):
         elif found and not line.strip().startswith("--"):
             break
     return [f"{name} : {SHORTER.sub('', explicit(of))}" for name, of in found]
+
+
+def meaning_of(path, word):
+    """What a word stands for, if it is short: the right sides of its equations, each with its left one."""
+    lines, found = read(path).splitlines(), []
+    at = next((at for at, line in enumerate(lines) if re.match(rf" *(?:abbrev|unfoldable) pub {re.escape(word)}(?: |$)", line)), None)
+    if at is None:
+        return []
+    indent = len(lines[at]) - len(lines[at].lstrip())
+    for line in lines[at + 1 :]:
+        deep = len(line) - len(line.lstrip())
+        if not line.strip() or deep < indent or (deep == indent and not line.strip().startswith(f"{word} ")):
+            break
+        if deep == indent:
+            found.append(line.strip())
+        elif found:
+            found[-1] += " " + line.strip()
+    return found if sum(map(len, found)) <= MOST_SHOWN else []
 
 
 def usual(binder):
