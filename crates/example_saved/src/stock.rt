@@ -1,6 +1,7 @@
 //! A stock of parts, by their numbers.
-ghost use Rattle.std.specs.Prelude.{◌≡◌, ◌↔◌, IsTrue, OnErr};
+ghost use Rattle.std.specs.Prelude.{◌≡◌, ◌↔◌, IsFalse, IsTrue, OnErr};
 ghost use Rattle.btree_slab.specs.TreeState.{IsOccupiedIn, pairs_of};
+ghost use Rattle.example_saved.specs.Recounts.{Recounts};
 
 use crate::part::Part;
 use anyhow::{Context, Result};
@@ -36,7 +37,9 @@ pub fn read_stock(alloc: Global, text: &str) -> Result<Stock> {
 
 /// Sets how many there are of the part at an address. Returns whether a part is there.
 pub fn recount(stock: &mut Stock, at: Address, count: u32) -> bool
-    ensures { IsTrue result ↔ IsOccupiedIn stock.old at }
+    ensures there { IsTrue result ↔ IsOccupiedIn stock.old at }
+    ensures set { IsTrue result → Recounts stock.old stock.new at count }
+    ensures kept { IsFalse result → (stock.new ≡ stock.old) }
 {
     let Some(item) = stock.item(at) else {
         return false;
