@@ -1,4 +1,5 @@
 pub mod Elements
+pub mod CallerLaws
 pub mod Merges
 pub mod Extension
 pub mod Splitting

@@ -1,5 +1,5 @@
 //! Maps in use: a stock of parts, by part number, a listing of them by pages (`listing.rt`), a removal of those that are sold out
-//! (`sold_out.rt`), a stock read from a file (`lines.rt`), bookings of a room (`bookings.rt`, `booked.rt`), orders by price (`orders.rt`), a
+//! (`sold_out.rt`), a part that gets another number (`renumbered.rt`), a stock read from a file (`lines.rt`), bookings of a room (`bookings.rt`, `booked.rt`), orders by price (`orders.rt`), a
 //! count of words (`words.rt`), one of strings by their texts (`texts.rt`), a log listed by minutes (`minutes.rt`), a count of visits in a
 //! fixed table (`visits.rt`), a cache of a bounded number of pairs (`cache.rt`), what threads may share (`shared.rt`), and a map read
 //! from a copy of its nodes (`copies.rt`). A set of pairs in use: the shelves on which parts lie (`shelves.rt`). A set of ranges in use:
@@ -20,6 +20,7 @@ mod listing;
 mod memory;
 mod minutes;
 mod orders;
+mod renumbered;
 mod reserved;
 mod shared;
 mod shelves;
@@ -37,6 +38,7 @@ use crate::listing::{count_parts, next_page};
 use crate::memory::{Owner, give, owner_of, region_of, release, reserve as reserve_memory};
 use crate::minutes::{Minute, logged};
 use crate::orders::{cancel, take_best};
+use crate::renumbered::renumber;
 use crate::reserved::reserve;
 use crate::shelves::append_shelves;
 use crate::sold_out::remove_sold_out;
@@ -243,6 +245,17 @@ fn print_page(rt: &impl Print, alloc: Global, stock: &mut BTreeMap<u32, u64>) ->
     rt.println(format_args!("not sold out: {}", stock.len()))
 }
 
+/// Prints whether two parts got another number, and how many of the one are in stock.
+fn print_renumbered(rt: &impl Print, alloc: Global) -> io::Result<()> {
+    let mut stock: BTreeMap<u32, u64> = BTreeMap::new(alloc);
+    set_stock(&mut stock, 408, 20)?;
+    for (part, number) in [(408, 410), (500, 1)] {
+        let is = renumber(&mut stock, part, number)?;
+        rt.println(format_args!("{part} is {number}: {is}"))?;
+    }
+    rt.println(format_args!("part 410: {}", in_stock(&stock, 410)))
+}
+
 /// Prints how many bookings overlap a time.
 fn print_bookings(rt: &impl Print, alloc: Global) -> io::Result<()> {
     let mut bookings = three_bookings(alloc)?;
@@ -301,6 +314,7 @@ fn main(rt: HostRuntime) -> io::Result<()> {
     print_stock(&rt, &mut stock)?;
     print_page(&rt, rt.alloc(), &mut stock)?;
     print_missing(&rt, rt.alloc(), &stock)?;
+    print_renumbered(&rt, rt.alloc())?;
     print_bookings(&rt, rt.alloc())?;
     print_blocks(&rt, rt.alloc())?;
     print_memory(&rt, rt.alloc())?;
