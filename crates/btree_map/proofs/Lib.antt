@@ -17,6 +17,7 @@ pub mod CursorSteps
 pub mod IndexLemmas
 pub mod PlaceLemmas
 pub mod QueryLemmas
+pub mod LookUpLaws
 pub mod OutsideLemmas
 pub mod SplitLemmas
 pub mod RangeStarts

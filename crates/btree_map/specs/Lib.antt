@@ -5,7 +5,6 @@ pub mod Lent
 pub mod Removal
 pub mod Queries
 pub mod Ascending
-pub mod LookUpLaws
 pub mod CallerLaws
 pub mod Extension
 pub mod Written

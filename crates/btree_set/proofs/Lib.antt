@@ -2,6 +2,7 @@
 -- elements that its name says.
 pub mod Common
 pub mod KeyLemmas
+pub mod SetLaws
 pub mod MergeLemmas
 pub mod MergedLemmas
 pub mod MergeLaws

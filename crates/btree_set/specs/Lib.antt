@@ -1,5 +1,4 @@
 pub mod Elements
-pub mod CallerLaws
 pub mod Merges
 pub mod Extension
 pub mod Splitting

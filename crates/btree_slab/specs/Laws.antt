@@ -2,7 +2,7 @@
 pub use Rattle.btree_find.specs.CallerLaws.{find_laws}
 pub use Rattle.btree_ext.specs.CallerLaws.{edit_laws}
 pub use Rattle.btree_map.specs.CallerLaws.{map_laws}
-pub use Rattle.btree_map.specs.LookUpLaws.{look_up_laws}
-pub use Rattle.btree_set.specs.CallerLaws.{set_laws}
+pub use Rattle.btree_map.proofs.LookUpLaws.{look_up_laws}
+pub use Rattle.btree_set.proofs.SetLaws.{set_laws}
 pub use Rattle.btree_range_set.specs.CallerLaws.{range_laws as range_set_laws}
 pub use Rattle.btree_range_map.specs.CallerLaws.{range_laws as range_map_laws}

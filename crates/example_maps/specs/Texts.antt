@@ -1,7 +1,7 @@
 -- A count of words, looked up by their texts.
 use Rattle.std.specs.Prelude.{ℕ, List, Option, String}
-use Rattle.btree_slab.specs.LookUpLaws.{by_text}
 use Rattle.btree_slab.specs.Pairs.{found_value}
+use Rattle.btree_slab.specs.Queries.{by_text}
 
 module _ {A : Type 0} where
   -- how often the word with a text was counted, if it was

@@ -1,12 +1,11 @@
 -- What callers conclude of look-ups: what a key, a text or another query finds in a list of pairs after a pair was inserted or removed.
 -- `inserted-key` and its like are for keys, `inserted-text` for keys that are strings; `inserted-by`, `removed-here` and `removed-apart` for
 -- any query.
-use Rattle.std.proofs.Common.{◌≡◌, ◌∙◌, ◌≤◌, ◌+◌, ℕ, zero, suc, Bool, true, false, cond, List, [], ◌∷◌, Option, Some, None, is_some, option_map, if◌then◌else◌, refl, sym, ap, arith, subst, ◌⊎◌, inl, inr, Ordering, String}
+use Rattle.std.proofs.Common.{◌≡◌, ◌∙◌, ◌+◌, ℕ, zero, suc, Bool, true, false, cond, List, [], ◌∷◌, Option, Some, None, is_some, option_map, if◌then◌else◌, refl, sym, ap, arith, ◌⊎◌, inl, inr, Ordering, String}
 use Rattle.std.specs.Prelude.{string_bytes, string_cmp}
 use Rattle.std.proofs.lemmas.Bool.{cases_Bool}
 use Rattle.std.specs.List.{AllByRecursion, count_by, insert, remove}
 use Rattle.std.specs.List.Sorted.{IsStrictlySortedBy}
-use Rattle.std.proofs.lemmas.List.Sums.{sum_by-cons}
 use Rattle.std.specs.Map.{IsKeyTest, keys_of, lookup_entry, remove_entry, set_value}
 use Rattle.std.specs.Cmp.{IsTotalOrder, tied_itself}
 use Rattle.std.specs.String.{string_cmp_total}
@@ -17,13 +16,10 @@ use Rattle.std.specs.declared.cmp.Ordering.TheVariants.{Less, Equal, Greater}
 use Rattle.btree_item.specs.Keys.{Cuts}
 use Rattle.btree_item.specs.KeyLaws.{cuts_by, cuts_of}
 use Rattle.btree_item.specs.Pairs.{Ascends, before, found, found_value, inserted, with_value}
+use Rattle.btree_item.proofs.KeyLemmas.{count_by-cons}
 use Rattle.btree_ext.specs.Remove.{removed}
-
-pub next : (n : ℕ) → 1 + n ≡ suc n
-next n = omega arith
-
-pub counted : {X : Type 0} (test : X → Bool) (x : X) (xs : List X) → count_by test (x ∷ xs) ≡ cond (test x) 1 0 + count_by test xs
-counted test x xs = sum_by-cons (λ y. cond (test y) 1 0) x xs
+use Rattle.btree_map.specs.CallerLaws.{put-in, written}
+use Rattle.btree_map.specs.Queries.{by_text}
 
 -- ---- by tests of keys
 module _ {K V : Type 0} where
@@ -46,28 +42,6 @@ module _ {K V : Type 0} where
     where
       by : (b : Bool) → test y.0 ≡ b → value_by test (insert ys i x) ≡ value_by test ys → value_by test (y ∷ insert ys i x) ≡ value_by test (y ∷ ys)
       by b e later = first test b y (insert ys i x) e ∙ ap (λ o. cond b (Some y.1) o) later ∙ sym (first test b y ys e)
-
-  -- one that passes, where none did
-  pub put-here : (test : K → Bool) (xs : List (K × V)) (i : ℕ) (x : K × V) → test x.0 ≡ true → lookup_entry test xs ≡ None → value_by test (insert xs i x) ≡ Some x.1
-  put-here test xs zero x is none = first test true x xs is
-  put-here test [] (suc i) x is none = first test true x [] is
-  put-here test (y ∷ ys) (suc i) x is none = by (test y.0) refl (put-here test ys i x is)
-    where
-      by : (b : Bool) → test y.0 ≡ b → (lookup_entry test ys ≡ None → value_by test (insert ys i x) ≡ Some x.1) → value_by test (y ∷ insert ys i x) ≡ Some x.1
-      by true e later = absurd (let h = sym (ap (λ b. cond b (Some y) (lookup_entry test ys)) e) ∙ none in cc)
-      by false e later = first test false y (insert ys i x) e ∙ later (sym (ap (λ b. cond b (Some y) (lookup_entry test ys)) e) ∙ none)
-
-  -- a value that is written where a test passes
-  pub written-here : (test : K → Bool) (xs : List (K × V)) (w : V) → is_some (lookup_entry test xs) ≡ true → value_by test (set_value test xs w) ≡ Some w
-  written-here test [] w some = absurd (cc)
-  written-here test (x ∷ xs) w some = by (test x.0) refl (written-here test xs w)
-    where
-      by : (b : Bool) → test x.0 ≡ b → (is_some (lookup_entry test xs) ≡ true → value_by test (set_value test xs w) ≡ Some w) → value_by test (set_value test (x ∷ xs) w) ≡ Some w
-      by true e later = ap (λ b. value_by test (cond b ((x.0, w) ∷ xs) (x ∷ set_value test xs w))) e ∙ first test true (x.0, w) xs e
-      by false e later =
-          ap (λ b. value_by test (cond b ((x.0, w) ∷ xs) (x ∷ set_value test xs w))) e
-          ∙ first test false x (set_value test xs w) e
-          ∙ later (sym (ap (λ b. is_some (cond b (Some x) (lookup_entry test xs))) e) ∙ some)
 
   module _ (test other : K → Bool) (apart : (x : K) → test x ≡ true → other x ≡ false) where
     written-beside : (xs : List (K × V)) (w : V) → value_by other (set_value test xs w) ≡ value_by other xs
@@ -114,7 +88,7 @@ module _ {K Q V : Type 0} {ord : K → K → Ordering} (cmp : K → Q → Orderi
 
   none-below : (ys : List (K × V)) → AreAbove ys → count_by is_below ys ≡ 0
   none-below [] up = refl
-  none-below (y ∷ ys) up = counted is_below y ys ∙ ap (λ o. cond (is_lt o) 1 0 + count_by is_below ys) up.0 ∙ ap (λ n. 0 + n) (none-below ys up.1)
+  none-below (y ∷ ys) up = count_by-cons is_below y ys ∙ ap (λ o. cond (is_lt o) 1 0 + count_by is_below ys) up.0 ∙ ap (λ n. 0 + n) (none-below ys up.1)
 
   -- the list without the pair of a key is that without the entry where the test passes
   without : (xs : List (K × V)) → Ascends ord xs → is_some (found cmp q xs) ≡ true → remove xs (before cmp q xs) ≡ remove_entry (at_query cmp q) xs
@@ -126,13 +100,14 @@ module _ {K Q V : Type 0} {ord : K → K → Ordering} (cmp : K → Q → Orderi
           → remove (x ∷ xs) (before cmp q (x ∷ xs)) ≡ remove_entry (at_query cmp q) (x ∷ xs)
       by Less e later =
           let some-later : is_some (found cmp q xs) ≡ true = sym (ap (λ o. is_some (cond (is_eq o) (Some x) (lookup_entry (at_query cmp q) xs))) e) ∙ some in
-          ap (remove (x ∷ xs)) (counted is_below x xs)
+          let next : 1 + count_by is_below xs ≡ suc (count_by is_below xs) = omega arith in
+          ap (remove (x ∷ xs)) (count_by-cons is_below x xs)
           ∙ ap (λ o. remove (x ∷ xs) (cond (is_lt o) 1 0 + count_by is_below xs)) e
-          ∙ ap (remove (x ∷ xs)) (next (count_by is_below xs))
+          ∙ ap (remove (x ∷ xs)) next
           ∙ ap (λ l. x ∷ l) (later some-later)
           ∙ sym (ap (λ o. cond (is_eq o) xs (x ∷ remove_entry (at_query cmp q) xs)) e)
       by Equal e later =
-          ap (remove (x ∷ xs)) (counted is_below x xs)
+          ap (remove (x ∷ xs)) (count_by-cons is_below x xs)
           ∙ ap (λ o. remove (x ∷ xs) (cond (is_lt o) 1 0 + count_by is_below xs)) e
           ∙ ap (λ n. remove (x ∷ xs) (0 + n)) (none-below xs (is-above x.0 Equal e refl xs up.0))
           ∙ sym (ap (λ o. cond (is_eq o) xs (x ∷ remove_entry (at_query cmp q) xs)) e)
@@ -244,10 +219,10 @@ module _ {K : Type 0} {ord : K → K → Ordering} (o : IsTotalOrder ord) where
         by (inl is) (inl some) =
             ap (found_value cmp q) (is-written some)
             ∙ sym (same by_key by_query (with_value ord k w xs) (agree is))
-            ∙ written-here by_key xs w some
+            ∙ written by_key xs w some
             ∙ sym (ap (λ b. cond b (Some w) (found_value cmp q xs)) is)
         by (inl is) (inr none) =
-            ap (found_value cmp q) (is-put none) ∙ put-here by_query xs (before ord k xs) (k, w) is (absent-too is none)
+            ap (found_value cmp q) (is-put none) ∙ put-in by_query xs (before ord k xs) (k, w) is (absent-too is none)
             ∙ sym (ap (λ b. cond b (Some w) (found_value cmp q xs)) is)
         by (inr not) (inl some) =
             ap (found_value cmp q) (is-written some) ∙ written-beside by_key by_query (differ not) xs w
@@ -286,10 +261,6 @@ number-apart k q differ = by (nat_cmp k q) refl
 
 -- ---- at texts, for keys that are strings
 module _ {A : Type 0} where
-  -- on which side of a text a string is
-  abbrev pub by_text : String A → List ℕ → Ordering
-  by_text word text = slice_cmp nat_cmp (string_bytes word) text
-
   -- a string is equal to its text
   pub text-same : (word : String A) (text : List ℕ) → string_bytes word ≡ text → is_eq (by_text word text) ≡ true
   text-same word text same = ap (λ t. is_eq (slice_cmp nat_cmp t text)) same ∙ ap is_eq (tied_itself nat_list_cmp_total text)

@@ -1,14 +1,15 @@
 -- What callers conclude of a set: which element is stored after one was inserted or removed.
-use Rattle.std.proofs.Common.{◌≡◌, ◌∙◌, ◌+◌, ℕ, zero, suc, Bool, true, false, cond, List, [], ◌∷◌, Option, Some, None, is_some, if◌then◌else◌, refl, sym, ap, subst, ◌⊎◌, inl, inr, Ordering}
+use Rattle.std.proofs.Common.{◌≡◌, ◌∙◌, ◌+◌, ℕ, zero, suc, Bool, true, false, cond, List, [], ◌∷◌, Option, Some, None, is_some, if◌then◌else◌, refl, sym, ap, arith, subst, ◌⊎◌, inl, inr, Ordering}
 use Rattle.std.proofs.lemmas.Bool.{cases_Bool}
 use Rattle.std.specs.Cmp.{IsTotalOrder, tied_itself}
-use Rattle.std.specs.List.{AllByRecursion, count_by, find, insert, remove}
+use Rattle.std.specs.List.{AllByRecursion, find, insert, remove}
 use Rattle.std.specs.List.Sorted.{IsStrictlySortedBy}
 use Rattle.std.specs.Ordering.{is_eq, is_lt}
 use Rattle.std.specs.declared.cmp.Ordering.TheVariants.{Less, Equal, Greater}
 use Rattle.btree_item.specs.Keys.{Cuts}
 use Rattle.btree_item.specs.KeyLaws.{cuts_of}
-use Rattle.btree_map.specs.LookUpLaws.{at_query, counted, equal-from, next}
+use Rattle.btree_item.proofs.KeyLemmas.{count_by-cons}
+use Rattle.btree_map.proofs.LookUpLaws.{at_query, equal-from}
 use Rattle.btree_set.specs.Elements.{IsInTree, SetState, before, inserted, removed, stored}
 
 -- ---- by a test
@@ -48,7 +49,7 @@ module _ {T Q : Type 0} {ord : T → T → Ordering} (cmp : T → Q → Ordering
 
   none-below : (ys : List T) → AreAbove ys → before cmp q ys ≡ 0
   none-below [] up = refl
-  none-below (y ∷ ys) up = counted (λ z. is_lt (cmp z q)) y ys ∙ ap (λ o. cond (is_lt o) 1 0 + before cmp q ys) up.0 ∙ ap (λ n. 0 + n) (none-below ys up.1)
+  none-below (y ∷ ys) up = count_by-cons (λ z. is_lt (cmp z q)) y ys ∙ ap (λ o. cond (is_lt o) 1 0 + before cmp q ys) up.0 ∙ ap (λ n. 0 + n) (none-below ys up.1)
 
   -- what is removed is equal to the query, and nothing that is left is
   record Removes (xs : List T) : Type 0 where
@@ -63,13 +64,13 @@ module _ {T Q : Type 0} {ord : T → T → Ordering} (cmp : T → Q → Ordering
   removes (x ∷ xs) up some = by (cmp x q) refl (removes xs up.1)
     where
       at : (o : Ordering) → cmp x q ≡ o → before cmp q (x ∷ xs) ≡ cond (is_lt o) 1 0 + before cmp q xs
-      at o e = counted (λ z. is_lt (cmp z q)) x xs ∙ ap (λ p. cond (is_lt p) 1 0 + before cmp q xs) e
+      at o e = count_by-cons (λ z. is_lt (cmp z q)) x xs ∙ ap (λ p. cond (is_lt p) 1 0 + before cmp q xs) e
 
       by : (o : Ordering) → cmp x q ≡ o → (is_some (stored cmp q xs) ≡ true → Removes xs) → Removes (x ∷ xs)
       by Less e later =
           let some-later : is_some (stored cmp q xs) ≡ true = sym (ap (λ o. is_some (cond (is_eq o) (Some x) (stored cmp q xs))) e) ∙ some in
           let r = later some-later in
-          let place : before cmp q (x ∷ xs) ≡ suc (before cmp q xs) = at Less e ∙ next (before cmp q xs) in
+          let place : before cmp q (x ∷ xs) ≡ suc (before cmp q xs) = let next : 1 + before cmp q xs ≡ suc (before cmp q xs) = omega arith in at Less e ∙ next in
           record {
             element = r.element;
             equal = r.equal;
