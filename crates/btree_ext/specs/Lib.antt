@@ -13,4 +13,3 @@ pub mod ValueWritten
 pub mod Outcomes
 pub mod Changes
 pub mod TreeLent
-pub mod Seen

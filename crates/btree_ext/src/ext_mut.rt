@@ -8,7 +8,11 @@ ghost use Rattle.btree_laws.specs.TreeState.{IsBTree, IsLeafAddressIn, IsOccupie
 ghost use Rattle.btree_find.specs.Fits.{FitsAt, FitsIn, ReplacesAt};
 ghost use Rattle.btree_ext.specs.Outcomes.{FindsSameBelow, value_below};
 ghost use Rattle.btree_ext.specs.Changes.{ExchangesAt, ExchangesAtKey, with_value_at_key};
-ghost use Rattle.btree_ext.specs.Seen.{InsertsAt, IsExchanged, IsGrantedIfAbsent, IsKeyExchanged, IsRefusedAtGap, IsRemoved, IsValueExchanged, RefusesAt, RunsAt, RunsByKey};
+ghost use Rattle.btree_ext.specs.Exchange.{IsExchanged, IsKeyExchanged, IsValueExchanged};
+ghost use Rattle.btree_ext.specs.Insert.{IsGrantedIfAbsent, IsRefusedAtGap};
+ghost use Rattle.btree_ext.specs.InsertAt.{InsertsAt, IsRefusedAt};
+ghost use Rattle.btree_ext.specs.Remove.{IsRemoved};
+ghost use Rattle.btree_ext.specs.Update.{RunsAt, RunsByKey};
 
 use crate::ext::BTreeExt;
 use btree_item::{Address, Item, Refused, UpdateRefused};
@@ -71,9 +75,11 @@ pub trait BTreeExtMut<K: Ord + Drop, V: Drop>: BTreeExt<K, V> {
         requires valid { IsValidIn (Self.state self.old) addr }
         requires back { IsSome addr.offset }
         requires fits { FitsAt K.cmp item.0 (Self.state self.old) addr }
-        ensures inserted { IfOk result (λ b. InsertsAt Self.state self.old self.new addr K.cmp b item) }
+        ensures inserted { IfOk result (λ b.
+            InsertsAt (Self.state self.old) (Self.state self.new) addr K.cmp b item) }
         ensures returned { IfErr result (λ r. (r.key, r.value) ≡ item) }
-        ensures refused { IfErr result (RefusesAt Self.state self.old self.new addr Self.Nodes.MayRefuse) };
+        ensures refused { IfErr result (λ r.
+            IsRefusedAt (Self.state self.old) (Self.state self.new) addr Self.Nodes.MayRefuse r.cause) };
 
     /// Inserts a pair at an address in a leaf, or nowhere in the empty tree, as `insert_at` does, and returns the address of the pair. It
     /// reads no node to get to a leaf.
@@ -88,9 +94,11 @@ pub trait BTreeExtMut<K: Ord + Drop, V: Drop>: BTreeExt<K, V> {
         requires back { IsSome addr.offset }
         requires leaf { IsLeafAddressIn (Self.state self.old) addr }
         requires fits { FitsAt K.cmp item.0 (Self.state self.old) addr }
-        ensures inserted { IfOk result (λ b. InsertsAt Self.state self.old self.new addr K.cmp b item) }
+        ensures inserted { IfOk result (λ b.
+            InsertsAt (Self.state self.old) (Self.state self.new) addr K.cmp b item) }
         ensures returned { IfErr result (λ r. (r.key, r.value) ≡ item) }
-        ensures refused { IfErr result (RefusesAt Self.state self.old self.new addr Self.Nodes.MayRefuse) };
+        ensures refused { IfErr result (λ r.
+            IsRefusedAt (Self.state self.old) (Self.state self.new) addr Self.Nodes.MayRefuse r.cause) };
 
     /// Replaces key and value of the item at an address, and returns the old pair. It changes one node.
     ///
@@ -98,21 +106,21 @@ pub trait BTreeExtMut<K: Ord + Drop, V: Drop>: BTreeExt<K, V> {
     fn replace_at(&mut self, addr: Address, key: K, value: V) -> (K, V)
         requires { ReplacesAt K.cmp key (Self.state self.old) addr }
         ensures old { item_of (Self.state self.old) addr ≡ Some result }
-        ensures exchanged { IsExchanged Self.state self.old self.new addr K.cmp (key, value) };
+        ensures exchanged { IsExchanged (Self.state self.old) (Self.state self.new) addr K.cmp (key, value) };
 
     /// Replaces the key of the item at an address, and returns the old key. It changes one node.
     ///
     /// An item must be at the address, and the new key must lie between its neighbours: `replaces_at` decides that.
     fn replace_key_at(&mut self, addr: Address, key: K) -> K
         requires { ReplacesAt K.cmp key (Self.state self.old) addr }
-        ensures { IsKeyExchanged Self.state self.old self.new addr K.cmp result key };
+        ensures { IsKeyExchanged (Self.state self.old) (Self.state self.new) addr K.cmp result key };
 
     /// Replaces the value of the item at an address, and returns the old value. It changes one node.
     ///
     /// An item must be at the address; `item` decides that.
     fn replace_value_at(&mut self, addr: Address, value: V) -> V
         requires { IsOccupiedIn (Self.state self.old) addr }
-        ensures { IsValueExchanged Self.state self.old self.new addr K.cmp result value };
+        ensures { IsValueExchanged (Self.state self.old) (Self.state self.new) addr K.cmp result value };
 
     /// Removes the item at an address. Returns it, with a back address at the place where it was; its key fits there, so `insert_at` can
     /// put it back. Returns `None`, and nothing changes, if there is no item: at -1, past the last item of a node, or nowhere.
@@ -121,7 +129,8 @@ pub trait BTreeExtMut<K: Ord + Drop, V: Drop>: BTreeExt<K, V> {
     /// node is replaced with the last one under the child before it.
     fn remove_at(&mut self, addr: Address) -> Option<(Item<K, V>, Address)>
         requires { IsValidIn (Self.state self.old) addr }
-        ensures removed { IfSome result (λ r. IsRemoved Self.state self.old self.new K.cmp addr r.0 r.1) }
+        ensures removed { IfSome result (λ r.
+            IsRemoved (Self.state self.old) (Self.state self.new) K.cmp addr r.0 r.1) }
         ensures vacant { IfNone result (item_of (Self.state self.old) addr ≡ None) }
         ensures unchanged { IfNone result (Self.state self.new ≡ Self.state self.old) };
 
@@ -132,7 +141,7 @@ pub trait BTreeExtMut<K: Ord + Drop, V: Drop>: BTreeExt<K, V> {
     fn update_at<T, F: FnOnce(V) -> (Option<V>, T)>(&mut self, addr: Address, action: F) -> T
         requires occupied { IsOccupiedIn (Self.state self.old) addr }
         requires callable { IfSome (item_of (Self.state self.old) addr) (λ x. F.pre action x.1) }
-        ensures { RunsAt Self.state self.old self.new K.cmp (F.post action) addr result };
+        ensures { RunsAt K.cmp (Self.state self.old) (Self.state self.new) (F.post action) addr result };
 
     /// Calls `action` with the value at a key, or with `None` if the key is not there. The value that it gives is stored at the key: an
     /// equal key stays, and the given one is dropped. If it gives none, the pair is removed, or none is added. Returns the action's answer.
@@ -150,14 +159,16 @@ pub trait BTreeExtMut<K: Ord + Drop, V: Drop>: BTreeExt<K, V> {
         requires used { IsUsed (Self.state self.old) id }
         requires fits { FitsIn K.cmp key (Self.state self.old) id }
         requires callable { F.pre action (found_value K.cmp key (pairs_of (Self.state self.old))) }
-        ensures updated { IfOk result (RunsByKey Self.state self.old self.new K.cmp (F.post action) key) }
+        ensures updated { IfOk result
+            (RunsByKey K.cmp (Self.state self.old) (Self.state self.new) (F.post action) key) }
         ensures under { FindsSameBelow K.cmp key (Self.state self.old) id }
         ensures uncounted { OnOk result
             ((Self.state self.new).kept ≡ (Self.state self.old).kept) }
-        ensures granted { OnOk result (IsGrantedIfAbsent Self.state self.old K.cmp key Self.Nodes.CanHold) }
+        ensures granted { OnOk result
+            (IsGrantedIfAbsent K.cmp key (Self.state self.old) Self.Nodes.CanHold) }
 
         ensures returned { IfErr result (λ r. (r.key ≡ key) × (r.action ≡ action)) }
         ensures absent { OnErr result (found K.cmp key (pairs_of (Self.state self.old)) ≡ None) }
         ensures cause { IfErr result (λ r.
-            IsRefusedAtGap Self.state self.old self.new K.cmp key Self.Nodes.MayRefuse r.cause) };
+            IsRefusedAtGap K.cmp key (Self.state self.old) (Self.state self.new) Self.Nodes.MayRefuse r.cause) };
 }

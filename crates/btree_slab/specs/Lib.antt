@@ -13,7 +13,6 @@ pub use Rattle.btree_ext.specs.Update
 pub use Rattle.btree_ext.specs.ValueWritten
 pub use Rattle.btree_ext.specs.Changes
 pub use Rattle.btree_ext.specs.TreeLent
-pub use Rattle.btree_ext.specs.Seen
 pub use Rattle.btree_find.specs.Answers
 pub use Rattle.btree_find.specs.Ends
 pub use Rattle.btree_find.specs.Fits
