@@ -109,7 +109,7 @@ fn update<C: NodesMut<u64, Span<u64>>>(
     reply: &mut Reply,
 ) -> Result<(), AllocError> {
     let mut calls = 0u64;
-    let outcome = map.update(start, end, |value: &u64| {
+    let outcome = map.update(start, end, &mut |value: &u64| {
         calls = calls.wrapping_add(1);
         value.wrapping_add(more)
     });
