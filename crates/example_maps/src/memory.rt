@@ -74,7 +74,8 @@ pub fn hand_over<C: NodesMut<u64, Span<Owner>>>(
     ensures stopped { IfErr result (λ r.
         IsMapped (handed from to) memory.old.ranges start r.key memory.new.ranges) }
 {
-    memory.update(start, end, &mut |owner: &Owner| if *owner == from { to } else { *owner })
+    let mut owner_then = |owner: &Owner| if *owner == from { to } else { *owner };
+    memory.update(start, end, &mut owner_then)
 }
 
 /// Returns the owner of an address, or `None` if it is free.

@@ -44,10 +44,11 @@ fn number_the_parts<C: ClearNodes<u64, Span<u64>> + Drop>(rt: &impl Abort, origi
     let mut map: RangeMap<u64, C> = RangeMap::new(origin);
     fill(rt, &mut map, THREE);
     let mut calls = 0u64;
-    let outcome = map.update(4, 10, &mut |_| {
+    let mut number = |_: &u64| {
         calls = calls.wrapping_add(1);
         calls
-    });
+    };
+    let outcome = map.update(4, 10, &mut number);
     assert_same(rt, (outcome.is_ok(), calls), (true, 3));
     check_ranges(
         rt,
