@@ -109,10 +109,11 @@ fn update<C: NodesMut<u64, Span<u64>>>(
     reply: &mut Reply,
 ) -> Result<(), AllocError> {
     let mut calls = 0u64;
-    let outcome = map.update(start, end, |value: &u64| {
+    let mut add = |value: &u64| {
         calls = calls.wrapping_add(1);
         value.wrapping_add(more)
-    });
+    };
+    let outcome = map.update(start, end, &mut add);
     put_insertion(outcome, reply)?;
     reply.word("calls")?;
     reply.number(calls)

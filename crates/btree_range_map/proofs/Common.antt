@@ -17,7 +17,7 @@ pub use Rattle.btree_item.specs.Pairs.{KeyFits}
 pub use Rattle.btree_item.specs.declared.refused.Cause.{Cause}
 pub use Rattle.btree_item.specs.declared.refused.Cause.TheVariants.{Count as NodeCount, Store as NodeStore}
 pub use Rattle.btree_laws.specs.TreeState.{TreeState, item_of, pairs_of}
-pub use Rattle.btree_range_map.specs.CallerLaws.{between-from, between-high, between-low}
+pub use Rattle.btree_range_map.specs.CallerLaws.{between-above, between-below, between-from, between-high, between-low}
 pub use Rattle.btree_range_map.specs.Places.{EndsBy, StartsFrom, IsRangeAround, IsApart}
 pub use Rattle.btree_range_map.specs.Ranges.{AreRuns, is_between, is_within, value_at, CutsOne, AscendFrom, meets, ranges_meeting, IsAssigned, JoinsNone}
 pub use Rattle.btree_range_map.specs.Series.{GoesThrough}

@@ -1,32 +1,21 @@
 -- Counts of the numbers of ranges, one range after the other.
 use Rattle.btree_range_map.proofs.Common.{◌≡◌, ◌≤◌, ◌<◌, ◌∙◌, ℕ, max, Bool, true, false, cond, List, [], ◌∷◌, Some, refl, sym, ap, subst, arith, between-from, between-high, between-low, AscendFrom, is_within, ranges_meeting, value_at, Span}
 use Rattle.std.specs.Prelude.{◌+◌, ◌-◌, is_some, min}
+use Rattle.btree_range_set.specs.CallerLaws.{within-not}
 use Rattle.btree_range_set.specs.CountLaws.{count-all, count-none, count-same, count-split}
 use Rattle.btree_range_set.specs.Counts.{count_from}
 use Rattle.btree_range_map.specs.CallerLaws.{value-meeting}
 use Rattle.btree_range_map.specs.Counts.{count_between}
 use Rattle.btree_range_map.specs.Ranges.{has_value}
+use Rattle.btree_range_map.proofs.RunLemmas.{none-below}
 
 module _ {V : Type 0} where
-  outside : (r : ℕ × Span V) (n : ℕ) → (is_within r n ≡ true → ⊥) → is_within r n ≡ false
-  outside r n out = by (is_within r n) out where
-    by : (b : Bool) → (b ≡ true → ⊥) → b ≡ false
-    by true never = absurd (never refl)
-    by false never = refl
-
   -- a number that is in the range, and one that is not
   here : (r : ℕ × Span V) (rest : List (ℕ × Span V)) (n : ℕ) → is_within r n ≡ true → has_value (r ∷ rest) n ≡ true
   here r rest n is = ap (λ (b : Bool). is_some (cond b (Some r.1.value) (value_at rest n))) is
 
   not-here : (r : ℕ × Span V) (rest : List (ℕ × Span V)) (n : ℕ) → (is_within r n ≡ true → ⊥) → has_value (r ∷ rest) n ≡ has_value rest n
-  not-here r rest n out = ap (λ (b : Bool). is_some (cond b (Some r.1.value) (value_at rest n))) (outside r n out)
-
-  -- the ranges have no number below the first
-  none-below : (low : ℕ) (xs : List (ℕ × Span V)) → AscendFrom low xs → (n : ℕ) → n < low → has_value xs n ≡ false
-  none-below low [] runs n lt = refl
-  none-below low (x ∷ xs) runs n lt =
-      not-here x xs n (λ is. let from = between-low x.0 x.1.end n is in let at = runs.0 in omega arith)
-      ∙ none-below x.1.end xs runs.2 n (let at = runs.0 in let some = runs.1 in omega arith)
+  not-here r rest n out = ap (λ (b : Bool). is_some (cond b (Some r.1.value) (value_at rest n))) (within-not (r.0, r.1.end) n out)
 
   -- of a range and those after it, the numbers from `from` up to `end`
   module _ (r : ℕ × Span V) (rest : List (ℕ × Span V)) (from end : ℕ) where
@@ -48,7 +37,7 @@ module _ {V : Type 0} where
         let at_high : low + (high - low) ≡ high = omega arith in
         let before : count_from both from (low - from) ≡ 0 =
         count-none both from (low - from)
-        (λ n start past. not-here r rest n (λ is. let above = between-low r.0 r.1.end n is in omega arith) ∙ none-below r.1.end rest runs n (omega arith)) in
+        (λ n start past. not-here r rest n (λ is. let above = between-low r.0 r.1.end n is in omega arith) ∙ ap (λ v. is_some v) (none-below r.1.end rest runs n (omega arith))) in
         let inside : count_from both low (high - low) ≡ high - low =
         count-all both low (high - low) (λ n start past. here r rest n (between-from r.0 r.1.end n (omega arith) (omega arith))) in
         let after : count_from both high (end - high) ≡ count_between rest high end =

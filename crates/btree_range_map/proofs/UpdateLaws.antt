@@ -1,12 +1,14 @@
--- What callers conclude from an update, of each number: it has a value that the action returned for the one that it had.
--- AreRuns, which they require, is ensured by `iter` and `overlapping`.
-use Rattle.btree_range_map.proofs.Common.{◌≡◌, ◌≤◌, ◌<◌, ◌∙◌, ℕ, zero, Bool, true, false, cond, List, [], ◌∷◌, Option, Some, None, refl, sym, ap, subst, arith, ◌⊎◌, inl, inr, cases_Bool, cases_lt, Span, between-from, between-high, between-low, AreRuns, AscendFrom, is_between, is_within, ranges_meeting, value_at}
-use Rattle.std.specs.Prelude.{◌++◌}
+-- What callers conclude from an update, of each number: it has a value that the action returned for the one that it had, or
+-- what a function makes of it, if the action is one; and of the action, by the number of its calls.
+-- AreRuns, which they require, is a clause of `update`.
+use Rattle.btree_range_map.proofs.Common.{◌≡◌, ◌≤◌, ◌<◌, ◌∙◌, ℕ, zero, suc, Bool, true, false, cond, List, [], ◌∷◌, Option, Some, None, refl, sym, ap, subst, arith, ◌⊎◌, inl, inr, cases_Bool, cases_lt, Span, between-from, between-high, between-low, AreRuns, AscendFrom, is_between, is_within, ranges_meeting, value_at, between-below, between-above}
+use Rattle.std.specs.Prelude.{◌+◌, ◌++◌, length, option_map}
 use Rattle.std.proofs.lemmas.List.{append_assoc}
 use Rattle.btree_range_map.specs.declared.refused.RangeRefused.{RangeRefused}
 use Rattle.btree_range_map.specs.Series.{AreAssigned, assigned_all}
-use Rattle.btree_range_map.specs.Updates.{IsUpdated, IsUpdatedUntil, Returns, parts_between}
-use Rattle.btree_range_map.proofs.RunLemmas.{above-not-between, none-below}
+use Rattle.btree_range_map.specs.Updates.{IsMapped, IsUpdated, IsUpdatedUntil, Returns, parts_between}
+use Rattle.btree_range_map.proofs.RangeLaws.{starts-here}
+use Rattle.btree_range_map.proofs.RunLemmas.{none-below}
 use Rattle.btree_range_map.proofs.StepLemmas.{passed}
 use Rattle.btree_range_map.proofs.UpdateLemmas.{ascend-parts, value-beside, value-parts}
 
@@ -24,11 +26,17 @@ module _ {V : Type 0} (p : ℕ × Span V) (rest : List (ℕ × Span V)) where
   value-before low [] n runs below = none-below p.0 (p ∷ rest) (omega arith, runs.1, runs.2) n below
   value-before low (x ∷ xs) n runs below = ap (λ v. cond (is_within x n) (Some x.1.value) v) (value-before x.1.end xs n runs.2 below)
 
+  value-there : (low : ℕ) (xs : List (ℕ × Span V)) → AscendFrom low (xs ++ p ∷ rest) → value_at (xs ++ p ∷ rest) p.0 ≡ Some p.1.value
+  value-there low [] runs = starts-here low p rest runs
+  value-there low (x ∷ xs) runs =
+      let later = low-before x.1.end xs runs.2 in
+      sym (passed (is_within x p.0) (Some x.1.value) (value_at (xs ++ p ∷ rest) p.0) (between-above x.0 x.1.end p.0 later)) ∙ value-there x.1.end xs runs.2
+
   none-before : (low : ℕ) (xs : List (ℕ × Span V)) (n : ℕ) → AscendFrom low (xs ++ p ∷ rest) → p.0 ≤ n → value_at xs n ≡ None
   none-before low [] n runs from = refl
   none-before low (x ∷ xs) n runs from =
       let later = low-before x.1.end xs runs.2 in
-      sym (passed (is_within x n) (Some x.1.value) (value_at xs n) (above-not-between x.0 x.1.end n (omega (arith, later, from))))
+      sym (passed (is_within x n) (Some x.1.value) (value_at xs n) (between-above x.0 x.1.end n (omega (arith, later, from))))
       ∙ none-before x.1.end xs n runs.2 from
 
 module _ {F V : Type 0} (Step : F → V → V → F → Type 0) where
@@ -77,15 +85,15 @@ module _ {F V : Type 0} (Step : F → V → V → F → Type 0) where
   given-same None before after none is = is
   given-same (Some v) before after none is = absurd (cc)
 
-  module _ (f : F) (old new : List (ℕ × Span V)) (s e : ℕ) (runs : AreRuns old) (n : ℕ) where
+  module _ (f f' : F) (old new : List (ℕ × Span V)) (s e : ℕ) (runs : AreRuns old) (n : ℕ) where
     ascend : AscendFrom 0 (parts_between s e old)
     ascend = ascend-parts s e 0 old runs.ascend
 
-    module _ (is : IsUpdated Step f (parts_between s e old) old new) where
+    module _ (is : IsUpdated Step f f' (parts_between s e old) old new) where
       now-given : IsGiven (value_at (parts_between s e old) n) (value_at old n) (value_at new n)
       now-given =
           subst (λ v. IsGiven (value_at (parts_between s e old) n) (value_at old n) v) (sym (is.assigned n))
-          (given-values f is.last 0 (parts_between s e old) is.given ascend is.returns (value_at old) n)
+          (given-values f f' 0 (parts_between s e old) is.given ascend is.returns (value_at old) n)
 
       -- after an update, a number from its start to below its end has a value that was returned for the one that it had
       pub updated-value : is_between s e n ≡ true → IsReturned (value_at old n) (value_at new n)
@@ -131,9 +139,9 @@ module _ {F V : Type 0} (Step : F → V → V → F → Type 0) where
         returns = (is.0, is.1, given, is.3, r.returns, ap (λ z. z ∷ given) first);
       }
 
-  module _ (f : F) (old new : List (ℕ × Span V)) (s e : ℕ) (refused : RangeRefused (Span V)) (runs : AreRuns old) (is : IsUpdatedUntil Step f (parts_between s e old) old new refused) (n : ℕ) where
+  module _ (f f' : F) (old new : List (ℕ × Span V)) (s e : ℕ) (refused : RangeRefused (Span V)) (runs : AreRuns old) (is : IsUpdatedUntil Step f f' (parts_between s e old) old new refused) (n : ℕ) where
     calls : CallsBefore f is.called is.given (refused.key, refused.value)
-    calls = calls-before f is.last is.called is.given (refused.key, refused.value) is.returns
+    calls = calls-before f f' is.called is.given (refused.key, refused.value) is.returns
 
     all : parts_between s e old ≡ calls.before ++ calls.part ∷ is.rest
     all = is.split ∙ ap (λ l. l ++ is.rest) calls.split ∙ append_assoc calls.before (calls.part ∷ []) is.rest
@@ -168,3 +176,75 @@ module _ {F V : Type 0} (Step : F → V → V → F → Type 0) where
           (sym (value-before calls.part is.rest 0 calls.before n ascends (omega (arith, start, below))) ∙ sym (ap (λ l. value_at l n) all) ∙ value-beside s e n (ranges_meeting s e old) out)
           given-now
     ]
+
+    -- the refused numbers are among those that were to be updated
+    stopped-inside : is_between s e refused.key ≡ true
+    stopped-inside = by (cases_Bool (is_between s e refused.key)) where
+      here : value_at (parts_between s e old) refused.key ≡ Some calls.part.1.value
+      here = ap (value_at (parts_between s e old)) (sym calls.start) ∙ ap (λ l. value_at l calls.part.0) all ∙ value-there calls.part is.rest 0 calls.before ascends
+
+      by : (is_between s e refused.key ≡ true) ⊎ (is_between s e refused.key ≡ false) → is_between s e refused.key ≡ true
+      by (inl inside) = inside
+      by (inr out) = let some = here in let none = value-beside s e refused.key (ranges_meeting s e old) out in absurd (cc)
+
+  -- ---- an action that is a function of the value
+  module _ (g : V → V) (gives : (p q : F) (v w : V) → Step p v w q → w ≡ g v) where
+    returned-by : (before after : Option V) → IsReturned before after → after ≡ option_map g before
+    returned-by None after is = is
+    returned-by (Some v) after is = is.4 ∙ ap (λ w. Some w) (gives is.1 is.2 v is.0 is.3)
+
+    mapped : (old new : List (ℕ × Span V)) (s e n : ℕ) → (is_between s e n ≡ true → IsReturned (value_at old n) (value_at new n)) → (is_between s e n ≡ false → value_at new n ≡ value_at old n)
+        → value_at new n ≡ cond (is_between s e n) (option_map g (value_at old n)) (value_at old n)
+    mapped old new s e n within beside = by (cases_Bool (is_between s e n)) where
+      by : (is_between s e n ≡ true) ⊎ (is_between s e n ≡ false) → value_at new n ≡ cond (is_between s e n) (option_map g (value_at old n)) (value_at old n)
+      by (inl inside) = rw inside (returned-by _ _ (within inside))
+      by (inr out) = rw out (beside out)
+
+    -- if the action is a function, a number from the start to below the end has what the function makes of its value
+    pub updated-by : (f f' : F) (old new : List (ℕ × Span V)) (s e : ℕ) → AreRuns old → IsUpdated Step f f' (parts_between s e old) old new → IsMapped g old s e new
+    updated-by f f' old new s e runs is n = mapped old new s e n (updated-value f f' old new s e runs n is) (updated-other f f' old new s e runs n is)
+
+    -- so has one below the refused numbers, and the others have what they had
+    pub stopped-by : (f f' : F) (old new : List (ℕ × Span V)) (s e : ℕ) (refused : RangeRefused (Span V)) → AreRuns old
+        → IsUpdatedUntil Step f f' (parts_between s e old) old new refused → IsMapped g old s refused.key new
+    stopped-by f f' old new s e refused runs is n = mapped old new s refused.key n within beside where
+      within : is_between s refused.key n ≡ true → IsReturned (value_at old n) (value_at new n)
+      within inside =
+          let low = between-low s refused.key n inside in
+          let below = between-high s refused.key n inside in
+          let end = between-high s e refused.key (stopped-inside f f' old new s e refused runs is n) in
+          stopped-value f f' old new s e refused runs is n (between-from s e n low (omega (arith, below, end))) below
+
+      beside : is_between s refused.key n ≡ false → value_at new n ≡ value_at old n
+      beside out = elim (cases_lt n refused.key) [
+        | inr from ↦ stopped-same f f' old new s e refused runs is n from
+        | inl below ↦ elim (cases_lt n s) [
+          | inl less ↦ stopped-other f f' old new s e refused runs is n (between-below s e n less)
+          | inr low ↦ let yes = between-from s refused.key n low below in absurd (cc)
+        ]
+      ]
+
+  -- ---- what the calls leave of the action
+  module _ (J : F → ℕ → F → Type 0) (keeps : (f : F) (k : ℕ) (p q : F) (v w : V) → J f k p → Step p v w q → J f (suc k) q) where
+    returns-keep : (f : F) (k : ℕ) (p q : F) (parts given : List (ℕ × Span V)) → J f k p → Returns Step p parts given q → J f (length parts + k) q
+    returns-keep f k p q [] given holds is =
+        let same : k ≡ 0 + k = omega arith in
+        subst (λ (m : ℕ). J f m q) same (subst (λ (z : F). J f k z) (sym is.1) holds)
+    returns-keep f k p q (part ∷ parts) given holds is =
+        let later : J f (length parts + suc k) q = returns-keep f (suc k) is.1 q parts is.2 (keeps f k p is.1 part.1.value is.0 holds is.3) is.4 in
+        let same : length parts + suc k ≡ suc (length parts) + k = omega arith in
+        subst (λ (m : ℕ). J f m q) same later
+
+    all-keep : (f q : F) (parts given : List (ℕ × Span V)) → J f 0 f → Returns Step f parts given q → J f (length parts) q
+    all-keep f q parts given holds is =
+        let same : length parts + 0 ≡ length parts = omega arith in
+        subst (λ (m : ℕ). J f m q) same (returns-keep f 0 f q parts given holds is)
+
+    -- what each call keeps, with one more to the number of calls, is so after as many calls as there are parts
+    pub updated-keeps : {f f' : F} {parts old new : List (ℕ × Span V)} → IsUpdated Step f f' parts old new → J f 0 f → J f (length parts) f'
+    updated-keeps {f} {f'} {parts} is holds = all-keep f f' parts is.given holds is.returns
+
+    -- or after the calls up to the one whose value was refused
+    pub stopped-keeps : {f f' : F} {parts old new : List (ℕ × Span V)} {refused : RangeRefused (Span V)} (is : IsUpdatedUntil Step f f' parts old new refused)
+        → J f 0 f → J f (length is.called) f'
+    stopped-keeps {f} {f'} {parts} {old} {new} {refused} is holds = all-keep f f' is.called (is.given ++ (refused.key, refused.value) ∷ []) holds is.returns

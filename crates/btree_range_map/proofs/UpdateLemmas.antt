@@ -1,5 +1,5 @@
 -- Updates, by one part more.
-use Rattle.btree_range_map.proofs.Common.{◌≡◌, ◌<◌, ◌≤◌, ◌∙◌, ℕ, zero, suc, max, min, Bool, true, false, cond, List, [], ◌∷◌, slice_get, Option, Some, None, refl, sym, ap, subst, arith, ◌⊎◌, inl, inr, cases_Bool, cases_lt, same_Some, le-ltb, Span, between-from, between-high, between-low, AreRuns, AscendFrom, IsAssigned, is_between, is_within, meets, ranges_meeting, value_at}
+use Rattle.btree_range_map.proofs.Common.{◌≡◌, ◌<◌, ◌≤◌, ◌∙◌, ℕ, zero, suc, max, min, Bool, true, false, cond, List, [], ◌∷◌, slice_get, Option, Some, None, refl, sym, ap, subst, arith, ◌⊎◌, inl, inr, cases_Bool, cases_lt, same_Some, le-ltb, Span, between-from, between-high, between-low, AreRuns, AscendFrom, IsAssigned, is_between, is_within, meets, ranges_meeting, value_at, between-below, between-above}
 use Rattle.std.proofs.Common.{nat_lt}
 use Rattle.std.specs.Prelude.{◌++◌, map}
 use Rattle.std.proofs.lemmas.Bool.{ltb-false, ltb-true}
@@ -10,7 +10,7 @@ use Rattle.btree_range_map.specs.Ranges.{DifferWhereTheyTouch}
 use Rattle.btree_range_map.specs.Series.{AreAssigned, assigned_all}
 use Rattle.btree_range_map.specs.Updates.{IsFirstPart, IsUpdated, IsUpdatedUntil, Returns, part_between, parts_between}
 use Rattle.btree_range_map.proofs.RangeLaws.{past-end, same-runs}
-use Rattle.btree_range_map.proofs.RunLemmas.{above-not-between, below-not-between, run-at, value-here, weaken}
+use Rattle.btree_range_map.proofs.RunLemmas.{run-at, value-here, weaken}
 use Rattle.btree_range_map.proofs.StepLemmas.{passed}
 
 -- ---- the parts of some numbers that have a value
@@ -34,10 +34,10 @@ module _ {V : Type 0} where
       let low = between-low s e n inside in
       let high = between-high s e n inside in
       elim (cases_lt n x.0) [
-        | inl below ↦ below-not-between (max s x.0) (min e x.1.end) n (omega (arith, below)) ∙ sym (below-not-between x.0 x.1.end n below)
+        | inl below ↦ between-below (max s x.0) (min e x.1.end) n (omega (arith, below)) ∙ sym (between-below x.0 x.1.end n below)
         | inr from ↦ elim (cases_lt n x.1.end) [
           | inl lt ↦ between-from (max s x.0) (min e x.1.end) n (omega (arith, low, from)) (omega (arith, high, lt)) ∙ sym (between-from x.0 x.1.end n from lt)
-          | inr above ↦ above-not-between (max s x.0) (min e x.1.end) n (omega (arith, above)) ∙ sym (above-not-between x.0 x.1.end n above)
+          | inr above ↦ between-above (max s x.0) (min e x.1.end) n (omega (arith, above)) ∙ sym (between-above x.0 x.1.end n above)
         ]
       ]
 
@@ -53,10 +53,10 @@ module _ {V : Type 0} where
   -- no other number has one
   outside-part : (s e n : ℕ) (x : ℕ × Span V) → is_between s e n ≡ false → is_within (part_between s e x) n ≡ false
   outside-part s e n x out = elim (cases_lt n s) [
-    | inl below ↦ below-not-between (max s x.0) (min e x.1.end) n (omega (arith, below))
+    | inl below ↦ between-below (max s x.0) (min e x.1.end) n (omega (arith, below))
     | inr from ↦ elim (cases_lt n e) [
       | inl lt ↦ let yes = between-from s e n from lt in absurd (cc)
-      | inr above ↦ above-not-between (max s x.0) (min e x.1.end) n (omega (arith, above))
+      | inr above ↦ between-above (max s x.0) (min e x.1.end) n (omega (arith, above))
     ]
   ]
 
@@ -209,13 +209,12 @@ module _ {F V : Type 0} (Step : F → V → V → F → Type 0) where
 
     module _ (from : ℕ) (now : F) (mid : List (ℕ × Span V)) (is : IsUpdatedBelow from now mid) (mid_runs : AreRuns mid) where
       -- no part is left
-      pub updated-end : parts_between from end mid ≡ [] → IsUpdated Step action (parts_between start end old) old mid
+      pub updated-end : parts_between from end mid ≡ [] → IsUpdated Step action now (parts_between start end old) old mid
       updated-end none =
           let all : parts_between start end old ≡ is.called =
           is.split ∙ ap (λ l. is.called ++ l) (parts-same from end old mid (is.runs mid_runs) mid_runs (λ n le. sym (is.same n le)) ∙ none) ∙ append-nil is.called in
           record {
             given = is.given;
-            last = now;
             returns = subst (λ l. Returns Step action l is.given now) (sym all) is.returns;
             assigned = is.assigned;
           }
@@ -245,13 +244,13 @@ module _ {F V : Type 0} (Step : F → V → V → F → Type 0) where
               assigned n ∙ ap (λ v. cond (is_between part.0 part.1.end n) (Some w) v) (is.assigned n)
               ∙ sym (assigned-last is.given (with_value part w) (value_at old) n);
           same = λ n le.
-              assigned n ∙ sym (passed (is_between part.0 part.1.end n) (Some w) (value_at mid n) (above-not-between part.0 part.1.end n le))
+              assigned n ∙ sym (passed (is_between part.0 part.1.end n) (Some w) (value_at mid n) (between-above part.0 part.1.end n le))
               ∙ is.same n (omega (arith, le, first.low, first.some));
         }
 
         -- their insertion was refused
         pub updated-until : (new : List (ℕ × Span V)) (refused : RangeRefused (Span V)) → new ≡ mid → refused.key ≡ part.0 → refused.value.end ≡ part.1.end → refused.value.value ≡ w
-            → IsUpdatedUntil Step action (parts_between start end old) old new refused
+            → IsUpdatedUntil Step action next (parts_between start end old) old new refused
         updated-until new refused same key last value =
             let Given : List (ℕ × Span V) → Type 0 = λ l. Returns Step action (is.called ++ part ∷ []) (is.given ++ l) next in
             let back : with_value part w ∷ [] ≡ (refused.key, refused.value) ∷ [] = λ i. (sym key i, record { end = sym last i; value = sym value i }) ∷ [] in
@@ -260,7 +259,6 @@ module _ {F V : Type 0} (Step : F → V → V → F → Type 0) where
               rest = parts_between part.1.end end old;
               split = next_split;
               given = is.given;
-              last = next;
               returns = subst Given back next_returns;
               assigned = λ n. ap (λ l. value_at l n) same ∙ is.assigned n;
             }

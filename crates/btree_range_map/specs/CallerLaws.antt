@@ -1,15 +1,18 @@
--- What callers conclude from the words of a map of ranges: which numbers are between two others, which values the ranges have
--- that meet some numbers, which numbers are in a gap or below it, and that `==` is equality of the ranges.
--- The ruleset gives `search` the laws on ranges that meet, and on gaps.
-use Rattle.std.proofs.Common.{◌≡◌, ◌≤◌, ◌<◌, ◌∙◌, ℕ, max, min, Bool, true, false, is_some, nat_eq, nat_le, nat_lt, List, [], ◌∷◌, cond, Option, Some, None, refl, sym, ap, arith, ◌⊎◌, inl, inr, Decides}
+-- What callers conclude from the words of a map of ranges: which numbers are between two others, which values they have after
+-- an insertion, and how many have one, which values the ranges have that meet some numbers, which numbers are in a gap or below
+-- it, where a gap is, and that `==` is equality of the ranges.
+-- The ruleset gives `search` the laws on insertions, on ranges that meet, and on gaps.
+use Rattle.std.proofs.Common.{◌≡◌, ◌≤◌, ◌<◌, ◌+◌, ◌-◌, ◌∙◌, ◌||◌, ℕ, max, min, Bool, true, false, is_some, nat_eq, nat_le, nat_lt, List, [], ◌∷◌, cond, Option, Some, None, refl, sym, ap, arith, ◌⊎◌, inl, inr, Decides}
 use Rattle.std.proofs.lemmas.Bool.{and_from, and_parts, cases_Bool, eq-eqb, eqb-true, le-leb, leb-true, lt-ltb, ltb-true}
 use Rattle.std.specs.Cmp.Lexicographic.{pointwise_decides}
 use Rattle.btree_map.specs.Comparison.{pair_eq}
 use Rattle.btree_range_map.specs.declared.span.Span.{Span}
-use Rattle.btree_range_set.specs.CallerLaws.{gaps-below, gaps-first, gaps-none}
+use Rattle.btree_range_set.specs.CallerLaws.{gaps-below, gaps-first, gaps-none, gaps-rest, gaps-some, within-above, within-below}
+use Rattle.btree_range_set.specs.CountLaws.{count-added}
+use Rattle.btree_range_map.specs.Counts.{count_between}
 use Rattle.btree_range_map.specs.Gaps.{AreGaps}
 use Rattle.btree_range_map.specs.SameRanges.{ranges_eq, span_eq}
-use Rattle.btree_range_map.specs.Ranges.{Overlaps, OverlapsNone, TellsSame, has_value, is_between, is_within, meets, ranges_meeting, value_at}
+use Rattle.btree_range_map.specs.Ranges.{IsAssigned, Overlaps, OverlapsNone, TellsSame, has_value, is_between, is_within, meets, ranges_meeting, value_at}
 
 -- ---- a number between two others
 -- one from a start to below an end is between them
@@ -23,6 +26,50 @@ between-low s e n is = leb-true s n (and_parts (nat_le s n) (nat_lt n e) is).0
 -- it is below the end
 pub between-high : (s e n : ℕ) → is_between s e n ≡ true → n < e
 between-high s e n is = ltb-true n e (and_parts (nat_le s n) (nat_lt n e) is).1
+
+-- one below the start is not between them
+pub between-below : (s e n : ℕ) → n < s → is_between s e n ≡ false
+between-below s e n below = within-below (s, e) n below
+
+-- nor is one from the end on
+pub between-above : (s e n : ℕ) → e ≤ n → is_between s e n ≡ false
+between-above s e n above = within-above (s, e) n above
+
+-- ---- insertions
+or-true : (b : Bool) → (b || true) ≡ true
+or-true true = refl
+or-true false = refl
+
+or-false : (b : Bool) → (b || false) ≡ b
+or-false true = refl
+or-false false = refl
+
+module _ {V : Type 0} (old new : List (ℕ × Span V)) (s e : ℕ) (value : V) (is : IsAssigned old s e value new) where
+  -- a number that was inserted has the value
+  pub found-inserted : (n : ℕ) → is_between s e n ≡ true → value_at new n ≡ Some value
+  found-inserted n inside = is n ∙ ap (λ b. cond b (Some value) (value_at old n)) inside
+
+  -- another one has what it had
+  pub found-other : (n : ℕ) → is_between s e n ≡ false → value_at new n ≡ value_at old n
+  found-other n out = is n ∙ ap (λ b. cond b (Some value) (value_at old n)) out
+
+  -- a number has a value if it had one, or was inserted
+  pub has-inserted : (n : ℕ) → has_value new n ≡ (has_value old n || is_between s e n)
+  has-inserted n = by (cases_Bool (is_between s e n)) where
+    by : (is_between s e n ≡ true) ⊎ (is_between s e n ≡ false) → has_value new n ≡ (has_value old n || is_between s e n)
+    by (inl inside) = ap (λ v. is_some v) (found-inserted n inside) ∙ sym (ap (λ b. has_value old n || b) inside ∙ or-true (has_value old n))
+    by (inr out) = ap (λ v. is_some v) (found-other n out) ∙ sym (ap (λ b. has_value old n || b) out ∙ or-false (has_value old n))
+
+  -- if the numbers had no value, so many more have one
+  pub count-inserted : (low high : ℕ) → low ≤ s → s ≤ e → e ≤ high → ((n : ℕ) → is_between s e n ≡ true → has_value old n ≡ false)
+      → count_between new low high ≡ count_between old low high + (e - s)
+  count-inserted low high from some to free =
+      count-added (has_value old) (has_value new) low (high - low) s (e - s) from (omega (arith, from, some, to))
+      (λ n inside. free n (ap (λ (k : ℕ). is_between s k n) last ∙ inside))
+      (λ n. has-inserted n ∙ ap (λ (k : ℕ). has_value old n || is_between s k n) last)
+    where
+      last : e ≡ s + (e - s)
+      last = omega (arith, some)
 
 module _ {V : Type 0} where
   -- ---- the ranges that meet some numbers
@@ -101,7 +148,16 @@ module _ {V : Type 0} where
       → s ≤ n → n < gap.0 → is_some (value_at xs n) ≡ true
   below-gap s e n xs gap rest gaps low below = gaps-below (has_value xs) s e n gap rest gaps low below
 
-pub ruleset range_laws = (value-meeting, none-meet, some-meet, no-gap, in-gap, below-gap)
+  -- the first gap is not empty, and lies within the numbers
+  pub gap-some : (s e : ℕ) (xs : List (ℕ × Span V)) (gap : ℕ × ℕ) (rest : List (ℕ × ℕ)) → AreGaps xs s e (gap ∷ rest)
+      → (s ≤ gap.0) × (gap.0 < gap.1) × (gap.1 ≤ e)
+  gap-some s e xs gap rest gaps = gaps-some (has_value xs) s e gap rest gaps
+
+  -- those after it are the gaps from its end on
+  pub gap-rest : (s e : ℕ) (xs : List (ℕ × Span V)) (gap : ℕ × ℕ) (rest : List (ℕ × ℕ)) → AreGaps xs s e (gap ∷ rest) → AreGaps xs gap.1 e rest
+  gap-rest s e xs gap rest gaps = gaps-rest (has_value xs) s e gap rest gaps
+
+pub ruleset range_laws = (between-below, between-above, found-inserted, found-other, value-meeting, none-meet, some-meet, no-gap, in-gap, below-gap, gap-some)
 
 -- ---- equal maps
 module _ {V : Type 0} (eq : V → V → Bool) (tells : TellsSame eq) where

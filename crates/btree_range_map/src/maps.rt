@@ -52,7 +52,8 @@ impl<V: Clone + Eq, C: NodesMut<u64, Span<V>>> RangeMap<V, C> {
     }
 
     /// Exchanges that map with `map`, if the pairs of `map` are ranges as a map of ranges has them, and returns whether they are: none is
-    /// empty, and where one meets the next it ends there and has another value. It reads each node of `map` once.
+    /// empty, and where one meets the next it ends there and has another value. Its limit and its count of refusals go with each map. It reads
+    /// each node of `map` once.
     pub fn swap_map(&mut self, map: &mut BTreeMap<u64, Span<V>, C>) -> bool
         ensures exact { IsTrue result ↔ AreRuns (pairs_of map.old) }
         ensures taken { IsTrue result → (self.new ≡ ranges_of map.old) }

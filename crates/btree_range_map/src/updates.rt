@@ -39,15 +39,16 @@ impl<V: Clone + Eq, C: NodesMut<u64, Span<V>>> RangeMap<V, C> {
         &mut self,
         start: u64,
         end: u64,
-        mut action: F,
+        action: &mut F,
     ) -> Result<(), RangeRefused<Span<V>>>
-        requires { F.IsAlwaysCallable action }
-        ensures updated { OnOk result (IsUpdated (CalledAt F.FnMut) action
+        requires { F.IsAlwaysCallable action.old }
+        ensures updated { OnOk result (IsUpdated (CalledAt F.FnMut) action.old action.new
             (parts_between start end self.old.ranges) self.old.ranges self.new.ranges) }
         ensures uncounted { OnOk result (self.new.kept ≡ self.old.kept) }
         ensures bounded { GrowsWithinLimit self.old self.new }
+        ensures runs { AreRuns self.old.ranges }
 
-        ensures stopped { IfErr result (IsUpdatedUntil (CalledAt F.FnMut) action
+        ensures stopped { IfErr result (IsUpdatedUntil (CalledAt F.FnMut) action.old action.new
             (parts_between start end self.old.ranges) self.old.ranges self.new.ranges) }
         ensures inside { IfErr result (λ r.
             (start ≤ r.key) × (r.key < r.value.end) × (r.value.end ≤ end)) }

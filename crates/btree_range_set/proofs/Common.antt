@@ -13,7 +13,7 @@ pub use Rattle.btree_find.specs.Navigation.{HasPlace, IsNormalized, IsPrevious}
 pub use Rattle.btree_item.specs.Address.{Address}
 pub use Rattle.btree_item.specs.Pairs.{KeyFits}
 pub use Rattle.btree_laws.specs.TreeState.{TreeState, item_of, pairs_of}
-pub use Rattle.btree_range_set.specs.CallerLaws.{within-from, within-high, within-low}
+pub use Rattle.btree_range_set.specs.CallerLaws.{none-below, runs-weaken, within-above, within-below, within-from, within-high, within-low}
 pub use Rattle.btree_range_set.specs.Places.{EndsBefore, StartsAfter, IsRangeAround}
 pub use Rattle.btree_range_set.specs.Ranges.{AreRuns, has_number, is_within, AreRunsFrom, ranges_meeting, IsMaximalRun}
 pub use Rattle.btree_range_set.specs.Series.{GoesThrough}

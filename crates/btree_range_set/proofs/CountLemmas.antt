@@ -1,17 +1,9 @@
 -- Counts of the numbers of ranges, one range after the other.
-use Rattle.btree_range_set.proofs.Common.{◌≡◌, ◌≤◌, ◌<◌, ◌∙◌, ℕ, suc, max, Bool, true, false, ◌||◌, List, [], ◌∷◌, refl, sym, ap, subst, arith, within-from, within-high, within-low, AreRunsFrom, has_number, is_within, ranges_meeting}
+use Rattle.btree_range_set.proofs.Common.{◌≡◌, ◌≤◌, ◌<◌, ◌∙◌, ℕ, suc, max, Bool, true, false, ◌||◌, List, [], ◌∷◌, refl, sym, ap, subst, arith, none-below, within-from, within-high, within-low, AreRunsFrom, has_number, is_within, ranges_meeting}
 use Rattle.std.specs.Prelude.{◌+◌, ◌-◌, min}
 use Rattle.btree_range_set.specs.CallerLaws.{has-meeting, within-not}
 use Rattle.btree_range_set.specs.Counts.{count_between, count_from}
 use Rattle.btree_range_set.specs.CountLaws.{count-all, count-none, count-same, count-split}
-
--- the ranges have no number below the first
-none-below : (low : ℕ) (xs : List (ℕ × ℕ)) → AreRunsFrom low xs → (n : ℕ) → n < low → has_number xs n ≡ false
-none-below low [] runs n lt = refl
-none-below low (x ∷ xs) runs n lt =
-    let here : is_within x n ≡ false = within-not x n (λ is. let from = within-low x n is in let at = runs.0 in omega arith) in
-    let rest : has_number xs n ≡ false = none-below (suc x.1) xs runs.2 n (let at = runs.0 in let some = runs.1 in omega arith) in
-    rw (here, rest) refl
 
 -- of a range and those after it, the numbers from `from` up to `end`
 module _ (r : ℕ × ℕ) (rest : List (ℕ × ℕ)) (from end : ℕ) where

@@ -1,12 +1,11 @@
 -- The gaps between ranges: they are runs, of the numbers that are in no range.
-use Rattle.btree_range_set.proofs.Common.{◌≡◌, ◌≤◌, ◌<◌, ◌∙◌, ℕ, suc, max, Bool, true, false, not, ◌&&◌, ◌||◌, List, [], ◌∷◌, refl, sym, ap, arith, ◌⊎◌, inl, inr, cases_lt, le-ltb, lt-ltb, within-from, AreRuns, AreRunsFrom, has_number, is_within, ranges_meeting}
+use Rattle.btree_range_set.proofs.Common.{◌≡◌, ◌≤◌, ◌<◌, ◌∙◌, ℕ, suc, max, Bool, true, false, not, ◌&&◌, ◌||◌, List, [], ◌∷◌, refl, sym, ap, arith, ◌⊎◌, inl, inr, cases_lt, le-ltb, lt-ltb, within-from, AreRuns, AreRunsFrom, has_number, is_within, ranges_meeting, within-below, within-above, none-below, runs-weaken}
 use Rattle.std.proofs.Common.{min, cond}
 use Rattle.std.proofs.lemmas.Bool.{ltb-false, ltb-true}
 use Rattle.std.specs.List.{AllByRecursion, filter}
 use Rattle.btree_range_set.specs.CallerLaws.{has-meeting}
 use Rattle.btree_range_set.specs.Gaps.{AreGaps, gaps_from, is_some_range}
 use Rattle.btree_range_set.specs.Ranges.{meets}
-use Rattle.btree_range_set.proofs.RunLemmas.{above-not-within, below-not-within, none-below, weaken}
 
 -- ---- the ranges that have one of the numbers
 pub runs-filtered : (test : ℕ × ℕ → Bool) (low : ℕ) (xs : List (ℕ × ℕ)) → AreRunsFrom low xs → AreRunsFrom low (filter test xs)
@@ -14,7 +13,7 @@ runs-filtered test low [] runs = tt
 runs-filtered test low (x ∷ xs) runs = by (test x) (runs-filtered test (suc x.1) xs runs.2) where
   by : (b : Bool) → AreRunsFrom (suc x.1) (filter test xs) → AreRunsFrom low (cond b (x ∷ filter test xs) (filter test xs))
   by true rest = (runs.0, runs.1, rest)
-  by false rest = weaken (suc x.1) low (filter test xs) (omega (arith, runs.0, runs.1)) rest
+  by false rest = runs-weaken (suc x.1) low (filter test xs) (omega (arith, runs.0, runs.1)) rest
 
 -- the ranges start below `e` and end above `s`
 abbrev IsAhead : (s e : ℕ) → List (ℕ × ℕ) → Type 0
@@ -32,8 +31,8 @@ ahead s e (x ∷ xs) = by (meets s e x) refl (ahead s e xs) where
 has-kept : (y : ℕ × ℕ) (ys : List (ℕ × ℕ)) (n : ℕ) → has_number (cond (is_some_range y) (y ∷ ys) ys) n ≡ (is_within y n || has_number ys n)
 has-kept y ys n = by (is_some_range y) refl where
   outside : is_some_range y ≡ false → (n < y.0) ⊎ (y.0 ≤ n) → is_within y n ≡ false
-  outside none (inl lt) = below-not-within y n lt
-  outside none (inr le) = let end = ltb-false y.0 y.1 none in above-not-within y n (omega (arith, le, end))
+  outside none (inl lt) = within-below y n lt
+  outside none (inr le) = let end = ltb-false y.0 y.1 none in within-above y n (omega (arith, le, end))
 
   by : (b : Bool) → is_some_range y ≡ b → has_number (cond b (y ∷ ys) ys) n ≡ (is_within y n || has_number ys n)
   by true is = refl
@@ -42,29 +41,29 @@ has-kept y ys n = by (is_some_range y) refl where
 runs-kept : (s m low : ℕ) (ys : List (ℕ × ℕ)) → AreRunsFrom low ys → s ≤ low → m < low → AreRunsFrom s (cond (is_some_range (s, m)) ((s, m) ∷ ys) ys)
 runs-kept s m low ys runs le lt = by (is_some_range (s, m)) refl where
   by : (b : Bool) → is_some_range (s, m) ≡ b → AreRunsFrom s (cond b ((s, m) ∷ ys) ys)
-  by true is = (omega arith, ltb-true s m is, weaken low (suc m) ys (omega (arith, lt)) runs)
-  by false is = weaken low s ys le runs
+  by true is = (omega arith, ltb-true s m is, runs-weaken low (suc m) ys (omega (arith, lt)) runs)
+  by false is = runs-weaken low s ys le runs
 
 -- a number before, in or after the first range
 past-first : (s e n : ℕ) (r : ℕ × ℕ) (rs : List (ℕ × ℕ)) → r.0 < r.1 → AreRunsFrom (suc r.1) rs → r.0 < e → s < r.1
     → (is_within (s, r.0) n || (is_within (r.1, e) n && not (has_number rs n))) ≡ (is_within (s, e) n && not (is_within r n || has_number rs n))
 past-first s e n r rs some runs starts ends = elim (cases_lt n s) [
-  | inl below ↦ rw (below-not-within (s, r.0) n below, below-not-within (r.1, e) n (omega (arith, below, ends)), below-not-within (s, e) n below) refl
+  | inl below ↦ rw (within-below (s, r.0) n below, within-below (r.1, e) n (omega (arith, below, ends)), within-below (s, e) n below) refl
   | inr from ↦ elim (cases_lt n r.0) [
     | inl before ↦
         rw (
           none-below (suc r.1) rs runs n (omega (arith, before, some)),
-          below-not-within r n before,
-          below-not-within (r.1, e) n (omega (arith, before, some)),
+          within-below r n before,
+          within-below (r.1, e) n (omega (arith, before, some)),
           within-from (s, r.0) n from before,
           within-from (s, e) n from (omega (arith, before, starts)),
         )
         refl
     | inr start ↦ elim (cases_lt n r.1) [
-      | inl inside ↦ rw (above-not-within (s, r.0) n start, below-not-within (r.1, e) n inside, within-from r n start inside) (sym (and-false (is_within (s, e) n)))
+      | inl inside ↦ rw (within-above (s, r.0) n start, within-below (r.1, e) n inside, within-from r n start inside) (sym (and-false (is_within (s, e) n)))
       | inr after ↦ elim (cases_lt n e) [
-        | inl up ↦ rw (above-not-within (s, r.0) n start, within-from (r.1, e) n after up, within-from (s, e) n from up, above-not-within r n after) refl
-        | inr past ↦ rw (above-not-within (s, r.0) n start, above-not-within (r.1, e) n past, above-not-within (s, e) n past) refl
+        | inl up ↦ rw (within-above (s, r.0) n start, within-from (r.1, e) n after up, within-from (s, e) n from up, within-above r n after) refl
+        | inr past ↦ rw (within-above (s, r.0) n start, within-above (r.1, e) n past, within-above (s, e) n past) refl
       ]
     ]
   ]
@@ -104,7 +103,7 @@ gaps-are xs s e runs =
     let rs = ranges_meeting s e xs in
     let rs_runs = runs-filtered (meets s e) 0 xs runs in
     record {
-      runs = weaken s 0 (gaps_from s e rs) (omega arith) (gaps-runs s e 0 rs rs_runs (ahead s e xs));
+      runs = runs-weaken s 0 (gaps_from s e rs) (omega arith) (gaps-runs s e 0 rs rs_runs (ahead s e xs));
       missing = λ n. gaps-missing s e 0 rs rs_runs (ahead s e xs) n
           ∙ and-same (is_within (s, e) n) (has_number rs n) (has_number xs n) (has-meeting s e n xs);
     }

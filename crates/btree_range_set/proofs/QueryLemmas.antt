@@ -1,9 +1,9 @@
 -- The range around a number, and the first and the last one.
-use Rattle.btree_range_set.proofs.Common.{◌≡◌, ◌≤◌, ◌<◌, ◌∙◌, ℕ, suc, true, false, List, [], ◌∷◌, length, slice_get, Option, None, Some, refl, ap, arith, ◌⊎◌, inl, inr, cases_Bool, cases_lt, same_Some, within-high, IsRangeAround, AreRuns, AreRunsFrom, IsMaximalRun, has_number, is_within}
+use Rattle.btree_range_set.proofs.Common.{◌≡◌, ◌≤◌, ◌<◌, ◌∙◌, ℕ, suc, true, false, List, [], ◌∷◌, length, slice_get, Option, None, Some, refl, ap, arith, ◌⊎◌, inl, inr, cases_Bool, cases_lt, same_Some, within-high, IsRangeAround, AreRuns, AreRunsFrom, IsMaximalRun, has_number, is_within, none-below}
 use Rattle.std.proofs.Common.{◌-◌, IfSome}
 use Rattle.btree_map.specs.Lists.{last_of}
 use Rattle.btree_range_set.proofs.RangeLaws.{maximal, starts-here}
-use Rattle.btree_range_set.proofs.RunLemmas.{none-below, range-there}
+use Rattle.btree_range_set.proofs.RunLemmas.{range-there}
 
 -- the range around a number is a maximal run
 pub around-maximal : (xs : List (ℕ × ℕ)) (n : ℕ) (o : Option (ℕ × ℕ)) → AreRuns xs → IfSome o (IsRangeAround xs n) → IfSome o (IsMaximalRun xs)

@@ -1,14 +1,14 @@
 -- What callers conclude: after any list of granted calls the set has the numbers that the calls make of those before
 -- (`made-by-calls`); its ranges are exactly its maximal runs (`maximal`, `run-listed`); there is one list of runs for a set
 -- of numbers (`same-runs`); and `==` is equality of the numbers (`equal-numbers`).
-use Rattle.btree_range_set.proofs.Common.{◌≡◌, ◌≤◌, ◌<◌, ◌∙◌, ℕ, zero, suc, Bool, true, false, List, [], ◌∷◌, slice_get, Some, refl, sym, ap, subst, arith, ◌⊎◌, inl, inr, cases_Bool, cases_lt, same_Some, slice_get_within, within-from, within-high, within-low, AreRuns, AreRunsFrom, IsMaximalRun, has_number, is_within}
+use Rattle.btree_range_set.proofs.Common.{◌≡◌, ◌≤◌, ◌<◌, ◌∙◌, ℕ, zero, suc, Bool, true, false, List, [], ◌∷◌, slice_get, Some, refl, sym, ap, subst, arith, ◌⊎◌, inl, inr, cases_Bool, cases_lt, same_Some, slice_get_within, within-from, within-high, within-low, AreRuns, AreRunsFrom, IsMaximalRun, has_number, is_within, within-above, none-below}
 use Rattle.std.proofs.Common.{Decides}
 use Rattle.std.proofs.lemmas.Bool.{cases_order, or_from, or_left}
 use Rattle.btree_range_set.specs.CallerLaws.{ranges-equal}
 use Rattle.btree_range_set.specs.Calls.{AreGranted, Call, IsGranted, after_call, after_calls}
 use Rattle.btree_range_set.specs.Calls.Call.{Insert, Remove}
 use Rattle.btree_range_set.specs.SameRanges.{ranges_eq}
-use Rattle.btree_range_set.proofs.RunLemmas.{above-not-within, has-here, has-none, next-apart, none-below, run-at}
+use Rattle.btree_range_set.proofs.RunLemmas.{has-here, has-none, next-apart, run-at}
 
 -- ---- lists of calls
 one-call : (call : Call) (old new : List (ℕ × ℕ)) → IsGranted call old new → (n : ℕ) → has_number new n ≡ after_call call (has_number old) n
@@ -103,7 +103,7 @@ starts-here low x xs runs = or_left (is_within x x.0) (has_number xs x.0) (withi
 -- the end of the first range is in none
 ends-here : (low : ℕ) (x : ℕ × ℕ) (xs : List (ℕ × ℕ)) → AreRunsFrom low (x ∷ xs) → has_number (x ∷ xs) x.1 ≡ false
 ends-here low x xs runs =
-    or_from (is_within x x.1) (has_number xs x.1) (above-not-within x x.1 (omega arith)) (none-below (suc x.1) xs runs.2 x.1 (omega arith))
+    or_from (is_within x x.1) (has_number xs x.1) (within-above x x.1 (omega arith)) (none-below (suc x.1) xs runs.2 x.1 (omega arith))
 
 first-start : (low : ℕ) (x y : ℕ × ℕ) (xs ys : List (ℕ × ℕ)) → AreRunsFrom low (x ∷ xs) → AreRunsFrom low (y ∷ ys)
     → ((n : ℕ) → has_number (x ∷ xs) n ≡ has_number (y ∷ ys) n) → y.0 ≤ x.0

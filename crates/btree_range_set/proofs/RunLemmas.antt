@@ -1,15 +1,6 @@
 -- Lists of ranges that are edited at one place: the numbers in them, and that they still are runs.
-use Rattle.btree_range_set.proofs.Common.{◌≡◌, ◌≤◌, ◌<◌, ◌∙◌, ℕ, zero, suc, Bool, true, false, ◌||◌, List, [], ◌∷◌, length, set, slice_get, Some, refl, sym, ap, subst, arith, ◌⊎◌, inl, inr, le-ltb, insert, remove, EndsBefore, StartsAfter, AreRunsFrom, has_number, is_within}
-use Rattle.std.proofs.Common.{nat_le, nat_lt}
-use Rattle.std.proofs.lemmas.Bool.{lt-leb, and_left, and_right}
+use Rattle.btree_range_set.proofs.Common.{◌≡◌, ◌≤◌, ◌<◌, ◌∙◌, ℕ, zero, suc, Bool, true, false, ◌||◌, List, [], ◌∷◌, length, set, slice_get, Some, refl, sym, ap, subst, arith, ◌⊎◌, inl, inr, le-ltb, insert, remove, EndsBefore, StartsAfter, AreRunsFrom, has_number, is_within, within-below, within-above, none-below, runs-weaken}
 use Rattle.std.specs.List.{AllByRecursion}
-
--- ---- a number outside of a range
-pub below-not-within : (r : ℕ × ℕ) (n : ℕ) → n < r.0 → is_within r n ≡ false
-below-not-within r n low = and_left (nat_le r.0 n) (nat_lt n r.1) (lt-leb r.0 n low)
-
-pub above-not-within : (r : ℕ × ℕ) (n : ℕ) → r.1 ≤ n → is_within r n ≡ false
-above-not-within r n high = and_right (nat_le r.0 n) (nat_lt n r.1) (le-ltb n r.1 high)
 
 -- ---- the numbers of a list that was edited at a place
 or-swap : (x y z : Bool) → (x || (y || z)) ≡ (y || (x || z))
@@ -34,10 +25,6 @@ has-set (z ∷ xs) zero x y at n = refl
 has-set (z ∷ xs) (suc p) x y at n = ap (λ b. is_within z n || b) (has-set xs p x y at n) ∙ or-swap (is_within z n) (is_within y n) (has_number (remove xs p) n)
 
 -- ---- where the ranges of runs are
-pub weaken : (low less : ℕ) (xs : List (ℕ × ℕ)) → less ≤ low → AreRunsFrom low xs → AreRunsFrom less xs
-weaken low less [] le runs = tt
-weaken low less (x ∷ xs) le runs = (omega (arith, runs.0), runs.1, runs.2)
-
 pub run-at : (low : ℕ) (xs : List (ℕ × ℕ)) (p : ℕ) (x : ℕ × ℕ) → AreRunsFrom low xs → slice_get xs p ≡ Some x → (low ≤ x.0) × (x.0 < x.1)
 run-at low [] p x runs at = absurd (cc)
 run-at low (y ∷ xs) zero x runs at = let same : y ≡ x = cc in subst (λ z. (low ≤ z.0) × (z.0 < z.1)) same (runs.0, runs.1)
@@ -55,7 +42,7 @@ next-apart low (z ∷ xs) (suc p) x y runs at next = next-apart (suc z.1) xs p x
 pub runs-taken : (low : ℕ) (xs : List (ℕ × ℕ)) (p : ℕ) → AreRunsFrom low xs → AreRunsFrom low (remove xs p)
 runs-taken low [] zero runs = tt
 runs-taken low [] (suc p) runs = tt
-runs-taken low (x ∷ xs) zero runs = weaken (suc x.1) low xs (omega (arith, runs.0, runs.1)) runs.2
+runs-taken low (x ∷ xs) zero runs = runs-weaken (suc x.1) low xs (omega (arith, runs.0, runs.1)) runs.2
 runs-taken low (x ∷ xs) (suc p) runs = (runs.0, runs.1, runs-taken (suc x.1) xs p runs.2)
 
 -- runs from a number on, if the first one starts there
@@ -81,12 +68,6 @@ runs-put low (x ∷ xs) (suc p) y runs within some first ends starts =
     (runs.0, runs.1, runs-put (suc x.1) xs p y runs.2 (omega arith) some (λ is. let e = ends zero x (ap (λ i. suc i) (sym is)) refl in omega (arith, e)) (later-ends x xs p y.0 ends) starts)
 
 -- ---- no number between two places
-pub none-below : (low : ℕ) (xs : List (ℕ × ℕ)) → AreRunsFrom low xs → (n : ℕ) → n < low → has_number xs n ≡ false
-none-below low [] runs n lt = refl
-none-below low (x ∷ xs) runs n lt =
-    let outside = below-not-within x n (omega (arith, runs.0)) in
-    rw outside (none-below (suc x.1) xs runs.2 n (omega (arith, runs.0, runs.1)))
-
 or-false : (x y : Bool) → x ≡ false → y ≡ false → (x || y) ≡ false
 or-false x y fx fy = rw (fx, fy) refl
 
@@ -109,10 +90,10 @@ pub has-none : (low : ℕ) (xs : List (ℕ × ℕ)) (p n : ℕ) → AreRunsFrom 
 has-none low [] p n runs within ends starts = refl
 has-none low (x ∷ xs) zero n runs within ends starts =
     let above = starts x refl in
-    or-false (is_within x n) (has_number xs n) (below-not-within x n above) (none-below (suc x.1) xs runs.2 n (omega (arith, above, runs.1)))
+    or-false (is_within x n) (has_number xs n) (within-below x n above) (none-below (suc x.1) xs runs.2 n (omega (arith, above, runs.1)))
 has-none low (x ∷ xs) (suc p) n runs within ends starts =
     let first = first-ends low x xs p (suc n) runs (omega arith) ends in
-    or-false (is_within x n) (has_number xs n) (above-not-within x n (omega (arith, first)))
+    or-false (is_within x n) (has_number xs n) (within-above x n (omega (arith, first)))
     (has-none (suc x.1) xs p n runs.2 (omega arith) (later-ends x xs p (suc n) ends) starts)
 
 -- no range meets or touches the numbers from s up to e, if the one before a place ends below s and the one at it starts above e

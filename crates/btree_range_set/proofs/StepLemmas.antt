@@ -1,8 +1,8 @@
 -- The steps of an insertion and of a removal on the list of ranges.
-use Rattle.btree_range_set.proofs.Common.{◌≡◌, ◌≤◌, ◌<◌, ◌∙◌, ℕ, suc, max, Bool, true, false, not, ◌&&◌, ◌||◌, List, length, set, slice_get, Some, refl, sym, ap, arith, ◌⊎◌, inl, inr, cases_Bool, cases_lt, length-set, length-remove, same_Some, slice_get_within, insert, remove, within-from, within-high, within-low, EndsBefore, StartsAfter, AreRuns, has_number, is_within}
+use Rattle.btree_range_set.proofs.Common.{◌≡◌, ◌≤◌, ◌<◌, ◌∙◌, ℕ, suc, max, Bool, true, false, not, ◌&&◌, ◌||◌, List, length, set, slice_get, Some, refl, sym, ap, arith, ◌⊎◌, inl, inr, cases_Bool, cases_lt, length-set, length-remove, same_Some, slice_get_within, insert, remove, within-from, within-high, within-low, EndsBefore, StartsAfter, AreRuns, has_number, is_within, within-below, within-above}
 use Rattle.btree_range_set.specs.Ranges.{IsDifference, IsUnion}
 use Rattle.btree_range_set.proofs.ListLemmas.{get-removed, get-removed-below, get-set, get-set-other}
-use Rattle.btree_range_set.proofs.RunLemmas.{above-not-within, below-not-within, has-none, has-put, has-set, has-taken, next-apart, run-at, runs-put, runs-set, runs-taken}
+use Rattle.btree_range_set.proofs.RunLemmas.{has-none, has-put, has-set, has-taken, next-apart, run-at, runs-put, runs-set, runs-taken}
 
 pub ends-taken : (xs : List (ℕ × ℕ)) (p n : ℕ) → EndsBefore xs p n → EndsBefore (remove xs p) p n
 ends-taken xs p n ends q x next at = ends q x next (sym (get-removed-below xs p q (omega (arith, next))) ∙ at)
@@ -75,12 +75,12 @@ join-wider xs q s e x at low high n = by (cases_Bool (has_number xs n)) where
   by : (has_number xs n ≡ true) ⊎ (has_number xs n ≡ false) → (has_number xs n || is_within (x.0, e) n) ≡ (has_number xs n || is_within (s, e) n)
   by (inl has) = rw has refl
   by (inr has_not) = rw has_not (elim (cases_lt n x.0) [
-    | inl lt ↦ below-not-within (x.0, e) n lt ∙ sym (below-not-within (s, e) n (omega (arith, lt, low)))
+    | inl lt ↦ within-below (x.0, e) n lt ∙ sym (within-below (s, e) n (omega (arith, lt, low)))
     | inr ge ↦ elim (cases_lt n s) [
       | inl lt ↦ let yes = has-taken xs q x at n ∙ or-true (is_within x n) (has_number (remove xs q) n) (within-from x n ge (omega (arith, lt, high))) in absurd (cc)
       | inr from ↦ elim (cases_lt n e) [
         | inl lt ↦ within-from (x.0, e) n ge lt ∙ sym (within-from (s, e) n from lt)
-        | inr above ↦ above-not-within (x.0, e) n above ∙ sym (above-not-within (s, e) n above)
+        | inr above ↦ within-above (x.0, e) n above ∙ sym (within-above (s, e) n above)
       ]
     ]
   ])
@@ -142,19 +142,19 @@ clear-part old xs p s e x y at part same n out =
 -- the part above e
 pub right-part : (s e : ℕ) (x : ℕ × ℕ) → s < e → s ≤ x.0 → x.0 < e → (n : ℕ) → is_within (s, e) n ≡ false → is_within (e, x.1) n ≡ is_within x n
 right-part s e x some low cut n out = elim (outside-cases s e n some out) [
-  | inl below ↦ below-not-within (e, x.1) n (omega (arith, below, some)) ∙ sym (below-not-within x n (omega (arith, below, low)))
+  | inl below ↦ within-below (e, x.1) n (omega (arith, below, some)) ∙ sym (within-below x n (omega (arith, below, low)))
   | inr above ↦ elim (cases_lt n x.1) [
     | inl lt ↦ within-from (e, x.1) n above lt ∙ sym (within-from x n (omega (arith, above, cut)) lt)
-    | inr ge ↦ above-not-within (e, x.1) n ge ∙ sym (above-not-within x n ge)
+    | inr ge ↦ within-above (e, x.1) n ge ∙ sym (within-above x n ge)
   ]
 ]
 
 -- the part below s
 pub left-part : (s e : ℕ) (x : ℕ × ℕ) → s < e → s < x.1 → x.1 ≤ e → (n : ℕ) → is_within (s, e) n ≡ false → is_within (x.0, s) n ≡ is_within x n
 left-part s e x some cut high n out = elim (outside-cases s e n some out) [
-  | inr above ↦ above-not-within (x.0, s) n (omega (arith, above, some)) ∙ sym (above-not-within x n (omega (arith, above, high)))
+  | inr above ↦ within-above (x.0, s) n (omega (arith, above, some)) ∙ sym (within-above x n (omega (arith, above, high)))
   | inl below ↦ elim (cases_lt n x.0) [
-    | inl lt ↦ below-not-within (x.0, s) n lt ∙ sym (below-not-within x n lt)
+    | inl lt ↦ within-below (x.0, s) n lt ∙ sym (within-below x n lt)
     | inr ge ↦ within-from (x.0, s) n ge below ∙ sym (within-from x n ge (omega (arith, below, cut)))
   ]
 ]
@@ -211,25 +211,25 @@ module _ (xs : List (ℕ × ℕ)) (q s e : ℕ) (x : ℕ × ℕ) (runs : AreRuns
   parts : (n : ℕ) → (is_within (e, x.1) n || (is_within (x.0, s) n || has_number (remove xs q) n)) ≡ (has_number xs n && not (is_within (s, e) n))
   parts n = elim (cases_lt n s) [
     | inl low ↦
-        let out : is_within (s, e) n ≡ false = below-not-within (s, e) n low in
-        let r : is_within (e, x.1) n ≡ false = below-not-within (e, x.1) n (omega (arith, low, some)) in
+        let out : is_within (s, e) n ≡ false = within-below (s, e) n low in
+        let r : is_within (e, x.1) n ≡ false = within-below (e, x.1) n (omega (arith, low, some)) in
         let l : is_within (x.0, s) n ≡ is_within x n = elim (cases_lt n x.0) [
-          | inl lt ↦ below-not-within (x.0, s) n lt ∙ sym (below-not-within x n lt)
+          | inl lt ↦ within-below (x.0, s) n lt ∙ sym (within-below x n lt)
           | inr ge ↦ within-from (x.0, s) n ge low ∙ sym (within-from x n ge (omega (arith, low, some, right)))
         ] in
         rw (r, l) (sym (has-taken xs q x at n) ∙ and-right (has_number xs n) (is_within (s, e) n) out)
     | inr from ↦ elim (cases_lt n e) [
       | inl low ↦
-          let r : is_within (e, x.1) n ≡ false = below-not-within (e, x.1) n low in
-          let l : is_within (x.0, s) n ≡ false = above-not-within (x.0, s) n from in
+          let r : is_within (e, x.1) n ≡ false = within-below (e, x.1) n low in
+          let l : is_within (x.0, s) n ≡ false = within-above (x.0, s) n from in
           let none = others-none n from low in
           rw (r, l, none) (sym (and-false (has_number xs n) (is_within (s, e) n) (within-from (s, e) n from low)))
       | inr above ↦
-          let out : is_within (s, e) n ≡ false = above-not-within (s, e) n above in
-          let l : is_within (x.0, s) n ≡ false = above-not-within (x.0, s) n from in
+          let out : is_within (s, e) n ≡ false = within-above (s, e) n above in
+          let l : is_within (x.0, s) n ≡ false = within-above (x.0, s) n from in
           let r : is_within (e, x.1) n ≡ is_within x n = elim (cases_lt n x.1) [
             | inl lt ↦ within-from (e, x.1) n above lt ∙ sym (within-from x n (omega (arith, above, some, left)) lt)
-            | inr ge ↦ above-not-within (e, x.1) n ge ∙ sym (above-not-within x n ge)
+            | inr ge ↦ within-above (e, x.1) n ge ∙ sym (within-above x n ge)
           ] in
           rw (l, r) (sym (has-taken xs q x at n) ∙ and-right (has_number xs n) (is_within (s, e) n) out)
     ]

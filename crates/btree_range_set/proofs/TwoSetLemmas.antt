@@ -1,5 +1,5 @@
 -- A series whose ranges are those of another set, or its gaps.
-use Rattle.btree_range_set.proofs.Common.{◌≡◌, ◌≤◌, ◌<◌, ◌∙◌, ℕ, suc, Bool, true, false, not, ◌&&◌, ◌||◌, List, [], ◌∷◌, length, slice_get, Option, None, Some, refl, sym, ap, subst, arith, ◌⊎◌, inl, inr, cases_Bool, cases_lt, le-ltb, lt-ltb, within-from, within-high, AreRuns, AreRunsFrom, IsMaximalRun, has_number, is_within, IsDifferenceWith, IsUnionWith}
+use Rattle.btree_range_set.proofs.Common.{◌≡◌, ◌≤◌, ◌<◌, ◌∙◌, ℕ, suc, Bool, true, false, not, ◌&&◌, ◌||◌, List, [], ◌∷◌, length, slice_get, Option, None, Some, refl, sym, ap, subst, arith, ◌⊎◌, inl, inr, cases_Bool, cases_lt, le-ltb, lt-ltb, within-from, within-high, AreRuns, AreRunsFrom, IsMaximalRun, has_number, is_within, IsDifferenceWith, IsUnionWith, within-above, none-below}
 use Rattle.std.proofs.Common.{nat_le, nat_lt, ◌++◌, Result, Ok, Err, IfErr}
 use Rattle.std.proofs.lemmas.Bool.{and_parts, le-leb, lt-leb, or_from}
 use Rattle.std.specs.Iterator.{YieldsFirst, YieldsThen}
@@ -10,7 +10,7 @@ use Rattle.btree_range_set.specs.Series.{AddsRanges, AddsRangesUntil, RemovesRan
 use Rattle.btree_range_set.specs.State.{RangeState}
 use Rattle.btree_range_set.specs.TwoSets.{IsDifferenceBelow, IsIntersectionBelow, IsIntersectionWith, IsUnionBelow}
 use Rattle.btree_range_set.proofs.RangeLaws.{maximal}
-use Rattle.btree_range_set.proofs.RunLemmas.{above-not-within, has-here, none-below}
+use Rattle.btree_range_set.proofs.RunLemmas.{has-here}
 
 -- ---- what an iterator over a list gave
 abbrev firsts : List (ℕ × ℕ) → Option (ℕ × ℕ) → List (ℕ × ℕ) → Type 0
@@ -35,7 +35,7 @@ none-above : (low : ℕ) (given rest : List (ℕ × ℕ)) (x : ℕ × ℕ) → A
 none-above low [] rest x runs n from = refl
 none-above low (y ∷ given) rest x runs n from =
     let later = starts-above (suc y.1) given rest x runs.2 in
-    or_from (is_within y n) (has_number given n) (above-not-within y n (omega (arith, later, from))) (none-above (suc y.1) given rest x runs.2 n from)
+    or_from (is_within y n) (has_number given n) (within-above y n (omega (arith, later, from))) (none-above (suc y.1) given rest x runs.2 n from)
 
 same-below : (low : ℕ) (given rest : List (ℕ × ℕ)) (x : ℕ × ℕ) → AreRunsFrom low (given ++ x ∷ rest) → (n : ℕ) → n < x.0
     → has_number given n ≡ has_number (given ++ x ∷ rest) n

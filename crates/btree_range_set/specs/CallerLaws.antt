@@ -1,13 +1,14 @@
--- What callers conclude from the words of a set of ranges: which numbers are within a range, which ones the ranges have that
--- meet some numbers, which ones are in a gap or below it, and that `==` is equality of the ranges.
--- The ruleset gives `search` the laws on ranges that meet, and on gaps.
-use Rattle.std.proofs.Common.{◌≡◌, ◌≤◌, ◌<◌, ◌∙◌, ℕ, suc, max, min, Bool, true, false, not, ◌&&◌, ◌||◌, nat_eq, nat_le, nat_lt, List, [], ◌∷◌, cond, refl, sym, ap, arith, ◌⊎◌, inl, inr, Decides}
-use Rattle.std.proofs.lemmas.Bool.{and_from, and_parts, cases_Bool, eq-eqb, eqb-true, le-leb, leb-true, lt-ltb, ltb-true, or_from, or_left, or_right}
+-- What callers conclude from the words of a set of ranges: which numbers are within a range, which ones are in the set after
+-- an insertion, which ones the ranges have that meet some numbers, which ones are in a gap or below it, where a gap is, and that
+-- `==` is equality of the ranges.
+-- The ruleset gives `search` the laws on insertions, on ranges that meet, and on gaps.
+use Rattle.std.proofs.Common.{◌≡◌, ◌≤◌, ◌<◌, ◌-◌, ◌∙◌, ℕ, suc, max, min, Bool, true, false, not, ◌&&◌, ◌||◌, nat_eq, nat_le, nat_lt, List, [], ◌∷◌, cond, refl, sym, ap, arith, ◌⊎◌, inl, inr, Decides}
+use Rattle.std.proofs.lemmas.Bool.{and_from, and_parts, cases_Bool, cases_lt, eq-eqb, eqb-true, le-leb, leb-true, lt-ltb, ltb-true, or_from, or_left, or_right}
 use Rattle.std.specs.Cmp.Lexicographic.{pointwise_decides}
 use Rattle.btree_map.specs.Comparison.{pair_eq}
 use Rattle.btree_range_set.specs.Gaps.{AreGaps, AreGapsOf}
 use Rattle.btree_range_set.specs.SameRanges.{ranges_eq}
-use Rattle.btree_range_set.specs.Ranges.{AreRunsFrom, Overlaps, OverlapsNone, has_number, is_within, meets, ranges_meeting}
+use Rattle.btree_range_set.specs.Ranges.{AreRunsFrom, IsUnion, Overlaps, OverlapsNone, has_number, is_within, meets, ranges_meeting}
 
 -- ---- a number in a range
 -- a number from a range's start to below its end is within it
@@ -28,6 +29,31 @@ within-not r n out = by (is_within r n) out where
   by : (b : Bool) → (b ≡ true → ⊥) → b ≡ false
   by true never = absurd (never refl)
   by false never = refl
+
+-- one below the start is not
+pub within-below : (r : ℕ × ℕ) (n : ℕ) → n < r.0 → is_within r n ≡ false
+within-below r n below = within-not r n (λ is. omega (arith, below, within-low r n is))
+
+-- nor is one from the end on
+pub within-above : (r : ℕ × ℕ) (n : ℕ) → r.1 ≤ n → is_within r n ≡ false
+within-above r n above = within-not r n (λ is. omega (arith, above, within-high r n is))
+
+-- ---- insertions
+or-right : (b : Bool) → (b || true) ≡ true
+or-right true = refl
+or-right false = refl
+
+or-none : (b : Bool) → (b || false) ≡ b
+or-none true = refl
+or-none false = refl
+
+-- a number that was inserted is in the set
+pub found-inserted : (old new : List (ℕ × ℕ)) (s e n : ℕ) → IsUnion old s e new → is_within (s, e) n ≡ true → has_number new n ≡ true
+found-inserted old new s e n is inside = is n ∙ ap (λ b. has_number old n || b) inside ∙ or-right (has_number old n)
+
+-- another one is if it was
+pub found-other : (old new : List (ℕ × ℕ)) (s e n : ℕ) → IsUnion old s e new → is_within (s, e) n ≡ false → has_number new n ≡ has_number old n
+found-other old new s e n is out = is n ∙ ap (λ b. has_number old n || b) out ∙ or-none (has_number old n)
 
 -- ---- the ranges that meet some numbers
 -- of these numbers, the set has those that the ranges have
@@ -73,17 +99,17 @@ some-meet s e (y ∷ ys) x rest is = by (meets s e y) refl is (λ later. some-me
       record { number = found.number; inside = found.inside; has = or_right (is_within y found.number) (has_number ys found.number) found.has }
 
 -- ---- gaps
-not-below : (r : ℕ × ℕ) (n : ℕ) → n < r.0 → (is_within r n ≡ true) ⊎ (is_within r n ≡ false) → is_within r n ≡ false
-not-below r n below (inr out) = out
-not-below r n below (inl within) = absurd (omega (arith, below, within-low r n within))
-
 -- runs from a number on have none below it
-none-below : (low n : ℕ) (xs : List (ℕ × ℕ)) → AreRunsFrom low xs → n < low → has_number xs n ≡ false
-none-below low n [] runs below = refl
-none-below low n (x ∷ xs) runs below =
-    or_from (is_within x n) (has_number xs n)
-    (not-below x n (omega (arith, below, runs.0)) (cases_Bool (is_within x n)))
-    (none-below (suc x.1) n xs runs.2 (omega (arith, below, runs.0, runs.1)))
+pub none-below : (low : ℕ) (xs : List (ℕ × ℕ)) → AreRunsFrom low xs → (n : ℕ) → n < low → has_number xs n ≡ false
+none-below low [] runs n below = refl
+none-below low (x ∷ xs) runs n below =
+    or_from (is_within x n) (has_number xs n) (within-below x n (omega (arith, below, runs.0)))
+    (none-below (suc x.1) xs runs.2 n (omega (arith, below, runs.0, runs.1)))
+
+-- they are runs from a lower number on, too
+pub runs-weaken : (low less : ℕ) (xs : List (ℕ × ℕ)) → less ≤ low → AreRunsFrom low xs → AreRunsFrom less xs
+runs-weaken low less [] le runs = tt
+runs-weaken low less (x ∷ xs) le runs = (omega (arith, le, runs.0), runs.1, runs.2)
 
 full : (gap inside has : Bool) → gap ≡ (inside && not has) → gap ≡ false → inside ≡ true → has ≡ true
 full false true true _ _ _ = refl
@@ -113,11 +139,42 @@ pub gaps-below : (has : ℕ → Bool) (s e n : ℕ) (gap : ℕ × ℕ) (rest : L
     → s ≤ n → n < gap.0 → has n ≡ true
 gaps-below has s e n gap rest gaps low below =
     full (has_number (gap ∷ rest) n) (is_within (s, e) n) (has n) (gaps.missing n)
-    (none-below gap.0 n (gap ∷ rest) (omega arith, gaps.runs.1, gaps.runs.2) below)
+    (none-below gap.0 (gap ∷ rest) (omega arith, gaps.runs.1, gaps.runs.2) n below)
     (within-from (s, e) n low (omega (arith, below, within-high (s, e) gap.0 first.0)))
   where
     first : (is_within (s, e) gap.0 ≡ true) × (has gap.0 ≡ false)
     first = gaps-first has s e gap.0 gap rest gaps (within-from gap gap.0 (omega arith) gaps.runs.1)
+
+-- it is not empty, and lies within the numbers
+pub gaps-some : (has : ℕ → Bool) (s e : ℕ) (gap : ℕ × ℕ) (rest : List (ℕ × ℕ)) → AreGapsOf has s e (gap ∷ rest)
+    → (s ≤ gap.0) × (gap.0 < gap.1) × (gap.1 ≤ e)
+gaps-some has s e gap rest gaps = (low, some, high) where
+  some : gap.0 < gap.1
+  some = gaps.runs.1
+
+  inside : (n : ℕ) → gap.0 ≤ n → n < gap.1 → is_within (s, e) n ≡ true
+  inside n from to = (gaps-first has s e n gap rest gaps (within-from gap n from to)).0
+
+  low : s ≤ gap.0
+  low = within-low (s, e) gap.0 (inside gap.0 (omega arith) some)
+
+  high : gap.1 ≤ e
+  high = omega (arith, some, within-high (s, e) (gap.1 - 1) (inside (gap.1 - 1) (omega (arith, some)) (omega (arith, some))))
+
+-- those after it are the gaps from its end on
+pub gaps-rest : (has : ℕ → Bool) (s e : ℕ) (gap : ℕ × ℕ) (rest : List (ℕ × ℕ)) → AreGapsOf has s e (gap ∷ rest) → AreGapsOf has gap.1 e rest
+gaps-rest has s e gap rest gaps = record { runs = runs-later; missing = λ n. by n (cases_lt n gap.1) } where
+  bounds : (s ≤ gap.0) × (gap.0 < gap.1) × (gap.1 ≤ e)
+  bounds = gaps-some has s e gap rest gaps
+
+  runs-later : AreRunsFrom 0 rest
+  runs-later = runs-weaken (suc gap.1) 0 rest (omega arith) gaps.runs.2
+
+  by : (n : ℕ) → (n < gap.1) ⊎ (gap.1 ≤ n) → has_number rest n ≡ (is_within (gap.1, e) n && not (has n))
+  by n (inl below) = none-below (suc gap.1) rest gaps.runs.2 n (omega (arith, below)) ∙ ap (λ b. b && not (has n)) (sym (within-below (gap.1, e) n below))
+  by n (inr from) =
+      ap (λ b. b || has_number rest n) (sym (within-above gap n from)) ∙ gaps.missing n
+      ∙ ap (λ b. (b && nat_lt n e) && not (has n)) (le-leb s n (omega (arith, bounds.0, bounds.1, from)) ∙ sym (le-leb gap.1 n from))
 
 -- if there is no gap, each of the numbers is in the set
 pub no-gap : (s e n : ℕ) (xs : List (ℕ × ℕ)) → AreGaps xs s e [] → is_within (s, e) n ≡ true → has_number xs n ≡ true
@@ -133,7 +190,16 @@ pub below-gap : (s e n : ℕ) (xs : List (ℕ × ℕ)) (gap : ℕ × ℕ) (rest 
     → s ≤ n → n < gap.0 → has_number xs n ≡ true
 below-gap s e n xs gap rest gaps low below = gaps-below (has_number xs) s e n gap rest gaps low below
 
-pub ruleset range_laws = (has-meeting, none-meet, some-meet, no-gap, in-gap, below-gap)
+-- the first gap is not empty, and lies within the numbers
+pub gap-some : (s e : ℕ) (xs : List (ℕ × ℕ)) (gap : ℕ × ℕ) (rest : List (ℕ × ℕ)) → AreGaps xs s e (gap ∷ rest)
+    → (s ≤ gap.0) × (gap.0 < gap.1) × (gap.1 ≤ e)
+gap-some s e xs gap rest gaps = gaps-some (has_number xs) s e gap rest gaps
+
+-- those after it are the gaps from its end on
+pub gap-rest : (s e : ℕ) (xs : List (ℕ × ℕ)) (gap : ℕ × ℕ) (rest : List (ℕ × ℕ)) → AreGaps xs s e (gap ∷ rest) → AreGaps xs gap.1 e rest
+gap-rest s e xs gap rest gaps = gaps-rest (has_number xs) s e gap rest gaps
+
+pub ruleset range_laws = (within-below, within-above, found-inserted, found-other, has-meeting, none-meet, some-meet, no-gap, in-gap, below-gap, gap-some)
 
 -- ---- equal sets
 range-equal : (p q : ℕ × ℕ) → Decides (pair_eq nat_eq nat_eq p q) (p ≡ q)

@@ -35,7 +35,9 @@ use crate::cache::put;
 use crate::copies::{is_readable, read_copy};
 use crate::lines::read_stock;
 use crate::listing::{count_parts, next_page};
-use crate::memory::{Owner, give, owner_of, region_of, release, reserve as reserve_memory};
+use crate::memory::{
+    Owner, give, hand_over, owner_of, region_of, release, reserve as reserve_memory,
+};
 use crate::minutes::{Minute, logged};
 use crate::orders::{cancel, take_best};
 use crate::renumbered::renumber;
@@ -107,7 +109,8 @@ fn print_blocks(rt: &impl Print, alloc: Global) -> io::Result<()> {
     Ok(())
 }
 
-/// Prints who owns which addresses, of a hundred. Some are reserved, some of these are given away and back, and some are released.
+/// Prints who owns which addresses, of a hundred. Some are reserved, some of these are given away and back, some are released, and some handed
+/// over.
 fn print_memory(rt: &impl Print, alloc: Global) -> io::Result<()> {
     let mut memory: RangeMap<Owner> = RangeMap::new(alloc);
     give(&mut memory, 0, 16, Owner::System)?;
@@ -121,6 +124,7 @@ fn print_memory(rt: &impl Print, alloc: Global) -> io::Result<()> {
     }
     release(&mut memory, 20, 24)?;
     rt.println(format_args!("22 is free: {}", owner_of(&memory, 22).is_none()))?;
+    hand_over(&mut memory, 10, 40, Owner::Process(1), Owner::Process(2))?;
     for (start, span) in memory.iter() {
         rt.println(format_args!("{start} to {}: {:?}", span.end, span.value))?;
     }

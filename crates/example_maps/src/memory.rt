@@ -1,7 +1,8 @@
 //! The memory of a machine, and who owns which addresses: a map of ranges. Two regions of one owner that touch are one region.
-ghost use Rattle.std.specs.Prelude.{◌≡◌, IfNone, IfOk, IfSome, None, OnErr, OnOk};
+ghost use Rattle.std.specs.Prelude.{◌≡◌, IfErr, IfNone, IfOk, IfSome, None, OnErr, OnOk};
 ghost use Rattle.btree_slab.specs.RangeMapRanges.{IsAssigned, IsCleared, IsMaximalRun, range_now, value_at};
-ghost use Rattle.example_maps.specs.Memory.{Reserves};
+ghost use Rattle.btree_slab.specs.RangeMapUpdates.{IsMapped};
+ghost use Rattle.example_maps.specs.Memory.{Reserves, handed};
 
 use btree_slab::range_map::{RangeMap, RangeRefused, Span};
 use btree_slab::store::NodesMut;
@@ -57,6 +58,24 @@ pub fn release<C: NodesMut<u64, Span<Owner>>>(
     ensures kept { OnErr result (memory.new.ranges ≡ memory.old.ranges) }
 {
     memory.remove(start, end)
+}
+
+/// Hands the addresses from `start` up to `end` that one owner has over to another. If a region is refused, those below it have been handed
+/// over, and no other.
+pub fn hand_over<C: NodesMut<u64, Span<Owner>>>(
+    memory: &mut RangeMap<Owner, C>,
+    start: u64,
+    end: u64,
+    from: Owner,
+    to: Owner,
+) -> Result<(), RangeRefused<Span<Owner>>>
+    ensures handed { OnOk result
+        (IsMapped (handed from to) memory.old.ranges start end memory.new.ranges) }
+    ensures stopped { IfErr result (λ r.
+        IsMapped (handed from to) memory.old.ranges start r.key memory.new.ranges) }
+{
+    let mut owner_then = |owner: &Owner| if *owner == from { to } else { *owner };
+    memory.update(start, end, &mut owner_then)
 }
 
 /// Returns the owner of an address, or `None` if it is free.

@@ -112,14 +112,14 @@ fn update<C: NodesMut<u64, Span<Text>> + Drop>(rt: &impl Abort, alloc: Global, o
     let mut map: RangeMap<Text, C> = RangeMap::new(origin);
     insert(rt, alloc, &mut map, 3, 9, "a");
     insert(rt, alloc, &mut map, 9, 12, "a!");
-    let outcome = map.update(5, 10, |text: &Text| marked(alloc, text));
+    let outcome = map.update(5, 10, &mut |text: &Text| marked(alloc, text));
     assert_true(rt, outcome.is_ok());
     check_texts(
         rt,
         &map,
         &[(3, 5, "a"), (5, 9, "a!"), (9, 10, "a!!"), (10, 12, "a!")],
     );
-    let outcome = map.update(0, 5, |text: &Text| marked(alloc, text));
+    let outcome = map.update(0, 5, &mut |text: &Text| marked(alloc, text));
     assert_true(rt, outcome.is_ok());
     check_texts(rt, &map, &[(3, 9, "a!"), (9, 10, "a!!"), (10, 12, "a!")]);
 }

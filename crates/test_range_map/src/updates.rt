@@ -34,7 +34,7 @@ fn halve<C: ClearNodes<u64, Span<u64>> + Drop>(rt: &impl Abort, origin: C::Origi
     let mut map: RangeMap<u64, C> = RangeMap::new(origin);
     for (before, start, end, after) in ROWS {
         fill(rt, &mut map, before);
-        assert_true(rt, map.update(start, end, |value| *value / 2).is_ok());
+        assert_true(rt, map.update(start, end, &mut |value| *value / 2).is_ok());
         check_ranges(rt, &map, after);
     }
 }
@@ -44,10 +44,11 @@ fn number_the_parts<C: ClearNodes<u64, Span<u64>> + Drop>(rt: &impl Abort, origi
     let mut map: RangeMap<u64, C> = RangeMap::new(origin);
     fill(rt, &mut map, THREE);
     let mut calls = 0u64;
-    let outcome = map.update(4, 10, |_| {
+    let mut number = |_: &u64| {
         calls = calls.wrapping_add(1);
         calls
-    });
+    };
+    let outcome = map.update(4, 10, &mut number);
     assert_same(rt, (outcome.is_ok(), calls), (true, 3));
     check_ranges(
         rt,
@@ -62,7 +63,7 @@ fn refuse_the_second<C: ClearNodes<u64, Span<u64>> + Drop>(
     mut map: RangeMap<u64, C>,
 ) {
     fill(rt, &mut map, &[(0, 5, 8), (10, 15, 6)]);
-    match map.update(3, 12, |value| *value / 2) {
+    match map.update(3, 12, &mut |value| *value / 2) {
         Ok(()) => panic!(rt; "not refused"),
         Err(refused) => {
             let span = Span { end: 12, value: 3 };

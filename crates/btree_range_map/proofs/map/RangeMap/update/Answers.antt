@@ -7,13 +7,13 @@ use Rattle.btree_range_map.proofs.map.RangeMap.update.Goals as goal
 
 pub loop-first-init : goal.loop-first-init
 loop-first-init g c =
-    (updated-start (CalledAt g.F.FnMut) c.args.action c.args.self.now.ranges c.args.start c.args.end, refl, (λ more. absurd (omega (arith, more))), c.requires)
+    (updated-start (CalledAt g.F.FnMut) c.args.action.now c.args.self.now.ranges c.args.start c.args.end, refl, (λ more. absurd (omega (arith, more))), c.requires)
 
 pub loop-first-preserved : goal.loop-first-preserved
 loop-first-preserved g c =
     let l = c.loop-first in
     let one = c.in-Ok.ensures in (
-      updated-more (CalledAt g.F.FnMut) c.args.action c.args.self.now.ranges c.args.start c.args.end l.from l.action l.self.ranges l.invariant.0 c.first_part.ensures.runs
+      updated-more (CalledAt g.F.FnMut) c.args.action.now c.args.self.now.ranges c.args.start c.args.end l.from l.action l.self.ranges l.invariant.0 c.first_part.ensures.runs
           (c.in-Some.first, record { end = c.in-Some.last; value = c.in-Some.value.now }) c.in-Some.ensures.some c.action-given.result c.action-given.new.self (record { shown = c.in-Some.value; shows = refl; called = c.action-given.ensures }) c.insert.new.self.ranges one.assigned,
       one.uncounted ∙ l.invariant.1,
       grows-more c.args.self.now l.self c.insert.new.self l.invariant.1 l.invariant.2 one.bounded,
@@ -24,7 +24,7 @@ pub returns-in-Err-clause-stopped : goal.returns-in-Err-clause-stopped
 returns-in-Err-clause-stopped g c =
     let l = c.loop-first in
     let refused = c.in-Err.ensures in
-    updated-until (CalledAt g.F.FnMut) c.args.action c.args.self.now.ranges c.args.start c.args.end l.from l.action l.self.ranges l.invariant.0 c.first_part.ensures.runs
+    updated-until (CalledAt g.F.FnMut) c.args.action.now c.args.self.now.ranges c.args.start c.args.end l.from l.action l.self.ranges l.invariant.0 c.first_part.ensures.runs
     (c.in-Some.first, record { end = c.in-Some.last; value = c.in-Some.value.now }) c.in-Some.ensures.some c.action-given.result c.action-given.new.self (record { shown = c.in-Some.value; shows = refl; called = c.action-given.ensures }) c.insert.new.self.ranges c.in-Err.refused
     (refused-ranges _ l.self c.insert.new.self _ _ _ refused.cause) refused.returned.0 refused.returned.1 refused.returned.2
 
@@ -50,4 +50,10 @@ returns-in-Err-clause-bounded g c =
 pub returns-clause-updated : goal.returns-clause-updated
 returns-clause-updated g c =
     let l = c.loop-first in
-    updated-end (CalledAt g.F.FnMut) c.args.action c.args.self.now.ranges c.args.start c.args.end l.from l.action l.self.ranges l.invariant.0 c.first_part.ensures.runs c.in_default.ensures.none
+    updated-end (CalledAt g.F.FnMut) c.args.action.now c.args.self.now.ranges c.args.start c.args.end l.from l.action l.self.ranges l.invariant.0 c.first_part.ensures.runs c.in_default.ensures.none
+
+pub returns-clause-runs : goal.returns-clause-runs
+returns-clause-runs g c = c.loop-first.invariant.0.runs c.first_part.ensures.runs
+
+pub returns-in-Err-clause-runs : goal.returns-in-Err-clause-runs
+returns-in-Err-clause-runs g c = c.loop-first.invariant.0.runs c.first_part.ensures.runs
