@@ -1,6 +1,6 @@
-use Rattle.std.proofs.Common.{arith}
+use Rattle.std.proofs.Common.{◌∷◌, [], Some, arith, inr, length-append}
 use Rattle.btree_store.specs.SlotLaws.{content-fill}
-use Rattle.btree_more_stores.proofs.FilledLemmas.{content-push, filled-refill, refilled-inside}
+use Rattle.btree_more_stores.proofs.FilledLemmas.{content-push, filled-full, filled-refill, refilled-inside}
 use Rattle.btree_more_stores.proofs.slot_store.SlotStoreSlabMut.insert.Goals as goal
 
 pub invariant_of-self : goal.invariant_of-self
@@ -20,3 +20,13 @@ returns-then-has_free-clause-stored g c =
 pub returns-clause-stored : goal.returns-clause-stored
 returns-clause-stored g c =
     rw (c.push_reserved.ensures.items, c.reserve.ensures.slots, ← c.self.view_is) (content-push c.self.inside.slots.items c.len-end.result (omega arith) c.args.value)
+
+-- Where a free place is left, the search of these goals has no end.
+pub returns-then-is_err-clause-full : goal.returns-then-is_err-clause-full
+returns-then-is_err-clause-full g c =
+    rw (← c.self.view_is) (filled-full c.self.inside.slots.items c.self.inside.free.items c.self.inside.held _ c.self.invariant (omega arith))
+
+pub returns-clause-reuses : goal.returns-clause-reuses
+returns-clause-reuses g c =
+    let full = filled-full c.self.inside.slots.items c.self.inside.free.items c.self.inside.held _ c.self.invariant (omega arith) in
+    rw (c.push_reserved.ensures.items, c.reserve.ensures.slots, ← c.self.view_is) (inr (full, length-append c.self.inside.slots.items (Some c.args.value ∷ [])))
