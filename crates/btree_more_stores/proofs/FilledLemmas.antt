@@ -9,7 +9,7 @@ use Rattle.btree_store.specs.ContentLaws.{same_content}
 use Rattle.btree_store.specs.SlotLaws.{content-insert, get-content}
 use Rattle.btree_more_stores.proofs.TableLemmas.{table-refill, table-remove}
 use Rattle.btree_more_stores.specs.Table.{IsTable}
-use Rattle.btree_more_stores.specs.Filled.{IsFilled}
+use Rattle.btree_more_stores.specs.Filled.{IsFilled, IsFull}
 
 module _ {T : Type 0} (slots : List (Option T)) where
   -- the other places after one more
@@ -107,6 +107,10 @@ module _ {T : Type 0} (slots : List (Option T)) where
           table = subst (λ (n : ℕ). IsTable n (set slots id None) (free ++ id ∷ []) n (held - 1)) (sym long) (table-remove (length slots) slots free id (length slots) held v some filled.table);
           spare = omega (arith, filled.spare);
         }
+
+    -- where as many values are held as there are places, each has one
+    pub filled-full : IsFilled slots free held room → length slots ≤ held → IsFull slots
+    filled-full filled most = omega (arith, filled.table.counted, filled.table.total)
 
     -- more places have a value than none
     pub held-one : (id : ℕ) (v : T) → get_or slots id None ≡ Some v → IsFilled slots free held room → length free < room

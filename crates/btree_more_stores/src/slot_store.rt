@@ -4,8 +4,8 @@
 ghost use Rattle.std.specs.Prelude.{◌≡◌, ℕ, ◌+◌, ◌<◌, ◌≤◌, IfOk, IfErr, OnOk, OnErr, IsOk, IsSome, IsTrue, Some, None, option_copied, length, slice_index_or, slice_set, vec_capacity, vec_len};
 ghost use Rattle.std.specs.Borrow.{sem};
 ghost use Rattle.std.specs.FinMap as map;
-ghost use Rattle.btree_store.specs.Content.{content_from};
-ghost use Rattle.btree_more_stores.specs.Filled.{IsFilled, lends_filled};
+ghost use Rattle.btree_store.specs.Content.{Gains, content_from};
+ghost use Rattle.btree_more_stores.specs.Filled.{IsFilled, IsFull, KeepsPlaces, lends_filled};
 
 use crate::fill::Fill;
 use btree_steps::Steps;
@@ -167,24 +167,34 @@ impl<T, A: Allocator + Copy> SlabMut<T> for SlotStore<T, A> {
         Some(filled_mut(&mut self.slots[id]))
     }
 
-    fn insert(&mut self, value: T) -> Result<usize, T> {
-        match self.free.pop() {
-            Some(id) => {
-                fill(&mut self.slots, id, value);
-                self.held += 1;
-                Ok(id)
-            }
-            None => {
-                let id = self.slots.len();
-                if reserve(&mut self.slots, &mut self.free, id + 1).is_err() {
-                    self.refused.tick();
-                    return Err(value);
-                }
-                self.slots.push_reserved(Some(value));
-                self.held += 1;
-                Ok(id)
-            }
+    // The clauses are those of the trait, and those on the places: it takes a new one only if each has a value.
+    fn insert(&mut self, value: T) -> Result<usize, T>
+        ensures number { IfOk result (λ id. id < usize.MAX) }
+        ensures unused { IfOk result (λ id. map.get (content_from 0 self.old.slots) id ≡ None) }
+        ensures stored { IfOk result (Gains (content_from 0 self.old.slots) (content_from 0 self.new.slots) value) }
+        ensures uncounted { OnOk result (self.new.refused ≡ self.old.refused) }
+        ensures reuses { OnOk result (KeepsPlaces self.old.slots self.new.slots) }
+
+        ensures returned { IfErr result (λ back. back ≡ value) }
+        ensures unchanged { OnErr result (content_from 0 self.new.slots ≡ content_from 0 self.old.slots) }
+        ensures counted { OnErr result (self.new.refused ≡ self.old.refused + 1) }
+        ensures full { OnErr result (IsFull self.old.slots) }
+    {
+        let end = self.slots.len();
+        let has_free = self.held < end;
+        if has_free {
+            let id = self.free.pop().unwrap();
+            fill(&mut self.slots, id, value);
+            self.held += 1;
+            return Ok(id);
         }
+        if reserve(&mut self.slots, &mut self.free, end + 1).is_err() {
+            self.refused.tick();
+            return Err(value);
+        }
+        self.slots.push_reserved(Some(value));
+        self.held += 1;
+        Ok(end)
     }
 
     fn remove(&mut self, id: usize) -> T {

@@ -39,7 +39,7 @@ module _ {K V : Type 0} (read_key : Read K) (read_value : Read V) (cmp : K → K
 
   -- so it is with what a reader gave
   pub error-from : (remaining : Option (List ℕ)) → IfSome remaining (λ left. bytes ≡ left) → (e : OpenError) → IsRefusedBy read_key read_value cmp MayLack bytes e → IsErrorFrom read_key read_value cmp MayLack remaining e
-  error-from remaining all (errors.Read e) refused = tt
+  error-from remaining all (errors.Read e) refused = absurd refused
   error-from remaining all errors.Store refused = record { bytes = bytes; all = all; refused = refused }
   error-from remaining all (errors.Image fault at) refused = record { bytes = bytes; all = all; refused = refused }
   error-from remaining all (errors.Tree fault) refused = record { bytes = bytes; all = all; refused = refused }

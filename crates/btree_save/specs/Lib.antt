@@ -1,4 +1,5 @@
 pub mod Errors
+pub mod Texts
 pub mod Opened
 pub use Rattle.btree_image.specs.Saved
 -- what callers conclude from them

@@ -1,6 +1,8 @@
 -- What `open` promises, beside `IsSavedAs` of `btree_image`: the bytes say that this is the tree.
-use Rattle.std.specs.Prelude.{◌≡◌, ◌-◌, ℕ, IfErr, IfSome, List, length, Option, Some, Result, Err}
+use Rattle.std.specs.Prelude.{◌≡◌, ◌≢◌, ◌-◌, ℕ, IfErr, IfSome, List, length, Option, Some, Result, Err}
 use Rattle.std.specs.Io.KnownBytes.{Appends}
+use Rattle.std.specs.IoError.{error_kind}
+use Rattle.std.specs.declared.io.ErrorKind.TheVariants.{Interrupted}
 use Rattle.std.specs.declared.cmp.Ordering.{Ordering}
 use Rattle.btree_laws.specs.TreeState.{TreeState}
 use Rattle.btree_raw.specs.Limit.{IsBTreeWithinLimit}
@@ -36,9 +38,9 @@ module _ {K V : Type 0} (read_key : Read K) (read_value : Read V) where
       pub all : IfSome remaining (λ left. bytes ≡ left)
       pub refused : IsRefusedBy bytes e
 
-    -- why a reader is not opened: it failed, or its bytes are refused
+    -- why a reader is not opened: it failed, and was not just interrupted, or its bytes are refused
     abbrev pub IsErrorFrom : Option (List ℕ) → OpenError → Type 0
-    IsErrorFrom remaining (errors.Read e) = Unit {0}
+    IsErrorFrom remaining (errors.Read e) = error_kind e ≢ Interrupted
     IsErrorFrom remaining errors.Store = IsRefusedFrom remaining errors.Store
     IsErrorFrom remaining (errors.Image fault at) = IsRefusedFrom remaining (errors.Image fault at)
     IsErrorFrom remaining (errors.Tree fault) = IsRefusedFrom remaining (errors.Tree fault)

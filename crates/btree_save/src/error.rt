@@ -1,6 +1,7 @@
 //! Why a map is not opened, or not saved.
 ghost use Rattle.std.specs.Prelude.{◌≡◌};
 ghost use Rattle.btree_save.specs.Errors.{error_of};
+ghost use Rattle.btree_save.specs.Texts.{image_text, open_text, save_text};
 ghost use Rattle.btree_save.specs.declared.error.SaveError.TheVariants as saves;
 
 use btree_image::{BadImage, ReadError};
@@ -51,7 +52,9 @@ pub(crate) fn of_read(error: ReadError, count: usize) -> OpenError
 }
 
 // What is wrong with bytes, in words.
-fn text_of(fault: BadImage) -> &'static str {
+fn text_of(fault: BadImage) -> &'static str
+    ensures { result.now ≡ image_text fault }
+{
     match fault {
         BadImage::Short => "the file ends too early",
         BadImage::Magic => "this is no saved map",
@@ -66,6 +69,8 @@ fn text_of(fault: BadImage) -> &'static str {
 }
 
 impl Display for OpenError {
+    ghost output = { open_text };
+
     fn fmt<W: Write>(&self, f: &mut Formatter<W>) -> Written {
         match self {
             OpenError::Read(error) => write!(f, "{error}"),
@@ -82,6 +87,8 @@ impl Display for OpenError {
 impl Error for OpenError {}
 
 impl Display for SaveError {
+    ghost output = { save_text };
+
     fn fmt<W: Write>(&self, f: &mut Formatter<W>) -> Written {
         match self {
             SaveError::Memory => f.write_str("no memory for the bytes"),

@@ -43,6 +43,7 @@ fn map_in_store<K: Spelled + Ord, V: Spelled, C: Fill<Node<K, V>> + Drop>(
     requires empty { C.content nodes ≡ map.empty }
     requires unused { C.reached nodes ≡ 0 }
     ensures saved { IfOk result (λ map. IsSavedAs K.read V.read map bytes.now) }
+    ensures uncounted { IfOk result (λ map. map.kept.refusals ≡ C.refusals nodes) }
     ensures refused { IfErr result (IsRefusedBy K.read V.read K.cmp C.MayLack bytes.now) }
     ensures opens { Opens K.read V.read K.cmp C.MayLack bytes.now result }
 {
@@ -68,6 +69,7 @@ pub fn map_of_bytes<K: Spelled + Ord, V: Spelled, C: Fill<Node<K, V>> + Drop>(
 ) -> Result<BTreeMap<K, V, C>, OpenError>
     requires { FitsInMemory (node_row K.row V.row) }
     ensures saved { IfOk result (λ map. IsSavedAs K.read V.read map bytes.now) }
+    ensures uncounted { IfOk result (λ map. map.kept.refusals ≡ 0) }
     ensures refused { IfErr result (IsRefusedBy K.read V.read K.cmp C.MayLack bytes.now) }
     // What was saved is opened, if there is room.
     ensures opens { Opens K.read V.read K.cmp C.MayLack bytes.now result }
@@ -106,6 +108,7 @@ pub fn open<K: Spelled + Ord, V: Spelled, C: Fill<Node<K, V>> + Drop, A: Allocat
 ) -> Result<BTreeMap<K, V, C>, OpenError>
     requires { FitsInMemory (node_row K.row V.row) }
     ensures saved { IfOk result (IsOpenedFrom K.read V.read (R.remaining input.old)) }
+    ensures uncounted { IfOk result (λ map. map.kept.refusals ≡ 0) }
     ensures refused { IfErr result
         (IsErrorFrom K.read V.read K.cmp C.MayLack (R.remaining input.old)) }
     ensures opens { OpensFrom K.read V.read K.cmp C.MayLack (R.remaining input.old) result }

@@ -5,4 +5,6 @@ pub mod NumberLaws
 pub mod Mapped
 pub mod MappedLaws
 pub mod Integers
+pub mod Arrays
 pub mod IntegerLaws
+pub mod ArrayLaws

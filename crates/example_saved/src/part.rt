@@ -1,9 +1,7 @@
 //! A part of a stock: a type of its own that is saved.
-ghost use Rattle.std.specs.Prelude.{◌≡◌, ◌++◌, OnOk, Some, option_map};
-ghost use Rattle.example_saved.specs.Parts.{part-takes, part_bytes, part_read};
+ghost use Rattle.std.specs.Prelude.{◌≡◌, refl};
 
-use btree_spelled::Spelled;
-use std::alloc::{AllocError, Allocator};
+use btree_save::SpelledAs;
 
 /// How many there are of a part, and what one weighs.
 #[derive(Clone, Copy, Debug, PartialEq, Eq)]
@@ -13,20 +11,22 @@ pub struct Part {
 }
 
 /// Its bytes are those of its count, then those of its weight.
-#[tactic(auto, using(crate::specs::Parts::part_again))]
-impl Spelled for Part {
-    ghost spelling = { part_bytes };
+impl SpelledAs for Part {
+    type Parts = (u32, u32);
 
-    ghost read = { part_read };
+    ghost parts = { λ part. (part.count, part.grams) };
 
-    fn put<A: Allocator>(&self, out: &mut Vec<u8, A>) -> Result<(), AllocError> {
-        (self.count, self.grams).put(out)
+    ghost whole = { λ pair. record { count = pair.0; grams = pair.1 } };
+
+    fn to_parts(&self) -> (u32, u32) {
+        (self.count, self.grams)
     }
 
-    fn take(bytes: &[u8]) -> Option<(Part, &[u8])> {
-        let ((count, grams), rest) = <(u32, u32)>::take(bytes)?;
-        Some((Part { count, grams }, rest))
+    fn from_parts((count, grams): (u32, u32)) -> Part {
+        Part { count, grams }
     }
 
-    ghost takes = { part-takes };
+    ghost again = { λ _. refl };
+
+    ghost only = { λ _. refl };
 }

@@ -1,7 +1,9 @@
 //! The bytes of the types that are saved. Each list is written by hand.
+ghost use Rattle.std.specs.Prelude.{◌≡◌, refl};
+
 use crate::asserts::{assert_same, assert_true};
 use btree_range_map::Span;
-use btree_spelled::Spelled;
+use btree_spelled::{Spelled, SpelledAs};
 use std::alloc::Global;
 use std::fmt::Debug;
 use std::process::Abort;
@@ -81,6 +83,53 @@ fn others_have_their_bytes(rt: HostRuntime) -> Result<(), Fail> {
         value: 7u8,
     };
     check(&rt, alloc, span, &[0, 0, 0, 0, 0, 0, 1, 2, 7])
+}
+
+#[test]
+fn arrays_have_their_bytes(rt: HostRuntime) -> Result<(), Fail> {
+    let alloc = rt.alloc();
+    check(&rt, alloc, [0x0102u16, 3, 0xff04], &[1, 2, 0, 3, 255, 4])?;
+    check(&rt, alloc, [0x0102_0304u32, 5], &[1, 2, 3, 4, 0, 0, 0, 5])?;
+    check(&rt, alloc, [6u64], &[0, 0, 0, 0, 0, 0, 0, 6])?;
+    check(&rt, alloc, [0u64; 0], &[])
+}
+
+// A point with a mark, as the pair of its place and its mark.
+#[derive(Clone, Copy, Debug, PartialEq)]
+struct Point {
+    across: i16,
+    up: i16,
+    mark: char,
+}
+
+impl SpelledAs for Point {
+    type Parts = ((i16, i16), char);
+
+    ghost parts = { λ point. ((point.across, point.up), point.mark) };
+
+    ghost whole = { λ written. record { across = written.0.0; up = written.0.1; mark = written.1 } };
+
+    fn to_parts(&self) -> ((i16, i16), char) {
+        ((self.across, self.up), self.mark)
+    }
+
+    fn from_parts(((across, up), mark): ((i16, i16), char)) -> Point {
+        Point { across, up, mark }
+    }
+
+    ghost again = { λ _. refl };
+
+    ghost only = { λ _. refl };
+}
+
+#[test]
+fn types_of_ones_own_have_the_bytes_of_their_parts(rt: HostRuntime) -> Result<(), Fail> {
+    let point = Point {
+        across: -2,
+        up: 258,
+        mark: 'A',
+    };
+    check(&rt, rt.alloc(), point, &[255, 254, 1, 2, 0, 0, 0, 65])
 }
 
 // Bytes that no value has: a third boolean, and codes within the gap of the characters and past their end.

@@ -1,22 +1,32 @@
-use Rattle.std.proofs.Common.{arith}
+use Rattle.std.proofs.Common.{◌∷◌, [], Some, arith, inr, length-append}
 use Rattle.btree_store.specs.SlotLaws.{content-fill}
-use Rattle.btree_more_stores.proofs.FilledLemmas.{content-push, filled-refill, refilled-inside}
+use Rattle.btree_more_stores.proofs.FilledLemmas.{content-push, filled-full, filled-refill, refilled-inside}
 use Rattle.btree_more_stores.proofs.slot_store.SlotStoreSlabMut.insert.Goals as goal
 
 pub invariant_of-self : goal.invariant_of-self
 invariant_of-self g c =
-    rw (c.fill.ensures, c.pop.ensures.capacity) (filled-refill _ _ _ _ c.in-Some.ensures.items _ _ c.self.invariant _)
+    rw (c.fill.ensures, c.pop.ensures.capacity) (filled-refill _ _ _ _ (rw c.unwrap-id.ensures at c.pop.ensures.items) _ _ c.self.invariant _)
 
-pub returns-in-Some-clause-number : goal.returns-in-Some-clause-number
-returns-in-Some-clause-number g c =
-    let inside = refilled-inside _ _ _ _ c.in-Some.ensures.items _ _ c.self.invariant in
+pub returns-then-has_free-clause-number : goal.returns-then-has_free-clause-number
+returns-then-has_free-clause-number g c =
+    let inside = refilled-inside _ _ _ _ (rw c.unwrap-id.ensures at c.pop.ensures.items) _ _ c.self.invariant in
     let fits = c.well_formed in
     omega arith
 
-pub returns-in-Some-clause-stored : goal.returns-in-Some-clause-stored
-returns-in-Some-clause-stored g c =
-    rw (c.fill.ensures, ← c.self.view_is) (content-fill _ _ _ (refilled-inside _ _ _ _ c.in-Some.ensures.items _ _ c.self.invariant))
+pub returns-then-has_free-clause-stored : goal.returns-then-has_free-clause-stored
+returns-then-has_free-clause-stored g c =
+    rw (c.fill.ensures, ← c.self.view_is) (content-fill _ _ _ (refilled-inside _ _ _ _ (rw c.unwrap-id.ensures at c.pop.ensures.items) _ _ c.self.invariant))
 
-pub returns-else-is_err-clause-stored : goal.returns-else-is_err-clause-stored
-returns-else-is_err-clause-stored g c =
-    rw (c.push_reserved.ensures.items, c.reserve.ensures.slots, ← c.self.view_is) (content-push c.self.inside.slots.items c.len-id.result (omega arith) c.args.value)
+pub returns-clause-stored : goal.returns-clause-stored
+returns-clause-stored g c =
+    rw (c.push_reserved.ensures.items, c.reserve.ensures.slots, ← c.self.view_is) (content-push c.self.inside.slots.items c.len-end.result (omega arith) c.args.value)
+
+-- Where a free place is left, the search of these goals has no end.
+pub returns-then-is_err-clause-full : goal.returns-then-is_err-clause-full
+returns-then-is_err-clause-full g c =
+    rw (← c.self.view_is) (filled-full c.self.inside.slots.items c.self.inside.free.items c.self.inside.held _ c.self.invariant (omega arith))
+
+pub returns-clause-reuses : goal.returns-clause-reuses
+returns-clause-reuses g c =
+    let full = filled-full c.self.inside.slots.items c.self.inside.free.items c.self.inside.held _ c.self.invariant (omega arith) in
+    rw (c.push_reserved.ensures.items, c.reserve.ensures.slots, ← c.self.view_is) (inr (full, length-append c.self.inside.slots.items (Some c.args.value ∷ [])))
