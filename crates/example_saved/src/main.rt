@@ -5,7 +5,7 @@
 mod part;
 mod stock;
 
-use crate::stock::{Stock, read_stock, recount};
+use crate::stock::{Stock, copy_of, read_stock, recount};
 use anyhow::{Result, bail};
 use btree_save::{open, save};
 use btree_slab::BTreeExt;
@@ -27,16 +27,20 @@ fn open_from<R: Files + AllocGlobal>(rt: &R, path: &str) -> Result<Stock> {
     Ok(stock)
 }
 
-// Saves the stock of a text, opens it, counts a part anew where it was, and saves it again.
-fn save_and_change<R: Files + AllocGlobal>(rt: &R, text: &str, path: &str) -> Result<()> {
+// Saves the stock of a text, opens it, counts a part anew where it was, and saves it again. Prints how many there were, from a copy.
+fn save_and_change<R: Files + AllocGlobal + Print>(rt: &R, text: &str, path: &str) -> Result<()> {
     let stock = read_stock(rt.alloc(), text)?;
     let Ok(bolts) = stock.address_of(&17) else {
         bail!("there is no part 17");
     };
     save_as(rt, &stock, path)?;
     let mut again = open_from(rt, path)?;
+    let before = copy_of(rt.alloc(), &again)?;
     if !recount(&mut again, bolts, 349) {
         bail!("part 17 is gone");
+    }
+    if let Some(item) = before.item(bolts) {
+        rt.println(format_args!("17: {} before", item.value().count))?;
     }
     save_as(rt, &again, path)
 }

@@ -1,11 +1,12 @@
 //! A stock of parts, by their numbers.
-ghost use Rattle.std.specs.Prelude.{◌≡◌, ◌↔◌, IsFalse, IsTrue, OnErr};
+ghost use Rattle.std.specs.Prelude.{◌≡◌, ◌↔◌, IfOk, IsFalse, IsTrue, OnErr};
 ghost use Rattle.btree_slab.specs.TreeState.{IsOccupiedIn, pairs_of};
+ghost use Rattle.btree_save.specs.SavedLaws.{SameAddresses};
 ghost use Rattle.example_saved.specs.Recounts.{Recounts};
 
 use crate::part::Part;
 use anyhow::{Context, Result};
-use btree_save::SavedMap;
+use btree_save::{SavedMap, bytes_of_map, map_of_bytes};
 use btree_slab::{Address, BTreeExt, BTreeExtMut};
 use std::alloc::Global;
 
@@ -47,4 +48,13 @@ pub fn recount(stock: &mut Stock, at: Address, count: u32) -> bool
     let grams = item.value().grams;
     stock.replace_value_at(at, Part { count, grams });
     true
+}
+
+/// Returns the stock that is opened from the bytes of a stock: the same parts, at the same addresses.
+pub fn copy_of(alloc: Global, stock: &Stock) -> Result<Stock>
+    ensures same { IfOk result (SameAddresses stock.now) }
+{
+    let bytes = bytes_of_map(alloc, stock)?;
+    let copy: Stock = map_of_bytes(alloc, &bytes)?;
+    Ok(copy)
 }

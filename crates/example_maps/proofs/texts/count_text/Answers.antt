@@ -1,5 +1,5 @@
 use Rattle.btree_slab.specs.TreeState.{pairs_of}
-use Rattle.example_maps.specs.Texts.{by_text}
+use Rattle.btree_slab.specs.Queries.{by_text}
 use Rattle.example_maps.proofs.TextLemmas.{counted-again, counted-first}
 use Rattle.example_maps.proofs.texts.count_text.Goals as goal
 
