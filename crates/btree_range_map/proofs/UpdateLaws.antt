@@ -187,43 +187,6 @@ module _ {F V : Type 0} (Step : F → V → V → F → Type 0) where
       by (inl inside) = inside
       by (inr out) = let some = here in let none = value-beside s e refused.key (ranges_meeting s e old) out in absurd (cc)
 
-  -- ---- an action that is a function of the value
-  module _ (g : V → V) (gives : (p q : F) (v w : V) → Step p v w q → w ≡ g v) where
-    returned-by : (before after : Option V) → IsReturned before after → after ≡ option_map g before
-    returned-by None after is = is
-    returned-by (Some v) after is = is.4 ∙ ap (λ w. Some w) (gives is.1 is.2 v is.0 is.3)
-
-    mapped : (old new : List (ℕ × Span V)) (s e n : ℕ) → (is_between s e n ≡ true → IsReturned (value_at old n) (value_at new n)) → (is_between s e n ≡ false → value_at new n ≡ value_at old n)
-        → value_at new n ≡ cond (is_between s e n) (option_map g (value_at old n)) (value_at old n)
-    mapped old new s e n within beside = by (cases_Bool (is_between s e n)) where
-      by : (is_between s e n ≡ true) ⊎ (is_between s e n ≡ false) → value_at new n ≡ cond (is_between s e n) (option_map g (value_at old n)) (value_at old n)
-      by (inl inside) = rw inside (returned-by _ _ (within inside))
-      by (inr out) = rw out (beside out)
-
-    -- if the action is a function, a number from the start to below the end has what the function makes of its value
-    pub updated-by : (f f' : F) (old new : List (ℕ × Span V)) (s e : ℕ) → AreRuns old → IsUpdated Step f f' (parts_between s e old) old new → IsMapped g old s e new
-    updated-by f f' old new s e runs is n = mapped old new s e n (updated-value f f' old new s e runs n is) (updated-other f f' old new s e runs n is)
-
-    -- so has one below the refused numbers, and the others have what they had
-    pub stopped-by : (f f' : F) (old new : List (ℕ × Span V)) (s e : ℕ) (refused : RangeRefused (Span V)) → AreRuns old
-        → IsUpdatedUntil Step f f' (parts_between s e old) old new refused → IsMapped g old s refused.key new
-    stopped-by f f' old new s e refused runs is n = mapped old new s refused.key n within beside where
-      within : is_between s refused.key n ≡ true → IsReturned (value_at old n) (value_at new n)
-      within inside =
-          let low = between-low s refused.key n inside in
-          let below = between-high s refused.key n inside in
-          let end = between-high s e refused.key (stopped-inside f f' old new s e refused runs is n) in
-          stopped-value f f' old new s e refused runs is n (between-from s e n low (omega (arith, below, end))) below
-
-      beside : is_between s refused.key n ≡ false → value_at new n ≡ value_at old n
-      beside out = elim (cases_lt n refused.key) [
-        | inr from ↦ stopped-same f f' old new s e refused runs is n from
-        | inl below ↦ elim (cases_lt n s) [
-          | inl less ↦ stopped-other f f' old new s e refused runs is n (between-below s e n less)
-          | inr low ↦ let yes = between-from s refused.key n low below in absurd (cc)
-        ]
-      ]
-
   -- ---- what the calls leave of the action
   module _ (J : F → ℕ → F → Type 0) (keeps : (f : F) (k : ℕ) (p q : F) (v w : V) → J f k p → Step p v w q → J f (suc k) q) where
     returns-keep : (f : F) (k : ℕ) (p q : F) (parts given : List (ℕ × Span V)) → J f k p → Returns Step p parts given q → J f (length parts + k) q
@@ -248,3 +211,82 @@ module _ {F V : Type 0} (Step : F → V → V → F → Type 0) where
     pub stopped-keeps : {f f' : F} {parts old new : List (ℕ × Span V)} {refused : RangeRefused (Span V)} (is : IsUpdatedUntil Step f f' parts old new refused)
         → J f 0 f → J f (length is.called) f'
     stopped-keeps {f} {f'} {parts} {old} {new} {refused} is holds = all-keep f f' is.called (is.given ++ (refused.key, refused.value) ∷ []) holds is.returns
+
+-- ---- an action that is a function of the value
+module _ {V : Type 0} (g : V → V) where
+  returned-by : (F : Type 0) (before after : Option V) → IsReturned (λ (p : F) v w (q : F). w ≡ g v) before after → after ≡ option_map g before
+  returned-by F None after is = is
+  returned-by F (Some v) after is = is.4 ∙ ap (λ w. Some w) is.3
+
+  mapped : (old new : List (ℕ × Span V)) (s e n : ℕ) → (is_between s e n ≡ true → value_at new n ≡ option_map g (value_at old n)) → (is_between s e n ≡ false → value_at new n ≡ value_at old n)
+      → value_at new n ≡ cond (is_between s e n) (option_map g (value_at old n)) (value_at old n)
+  mapped old new s e n within beside = by (cases_Bool (is_between s e n)) where
+    by : (is_between s e n ≡ true) ⊎ (is_between s e n ≡ false) → value_at new n ≡ cond (is_between s e n) (option_map g (value_at old n)) (value_at old n)
+    by (inl inside) = rw inside (within inside)
+    by (inr out) = rw out (beside out)
+
+module _ {F V : Type 0} (g : V → V) where
+  -- a call returns what the function makes of the value
+  abbrev Gives : F → V → V → F → Type 0
+  Gives p v w q = w ≡ g v
+
+  given-all : (f f' : F) (old new : List (ℕ × Span V)) (s e : ℕ) → AreRuns old → IsUpdated Gives f f' (parts_between s e old) old new → IsMapped g old s e new
+  given-all f f' old new s e runs is n = mapped g old new s e n (λ inside. returned-by g F _ _ (updated-value Gives f f' old new s e runs n is inside)) (updated-other Gives f f' old new s e runs n is)
+
+  given-until : (f f' : F) (old new : List (ℕ × Span V)) (s e : ℕ) (refused : RangeRefused (Span V)) → AreRuns old
+      → IsUpdatedUntil Gives f f' (parts_between s e old) old new refused → IsMapped g old s refused.key new
+  given-until f f' old new s e refused runs is n = mapped g old new s refused.key n within beside where
+    within : is_between s refused.key n ≡ true → value_at new n ≡ option_map g (value_at old n)
+    within inside =
+        let low = between-low s refused.key n inside in
+        let below = between-high s refused.key n inside in
+        let end = between-high s e refused.key (stopped-inside Gives f f' old new s e refused runs is n) in
+        returned-by g F _ _ (stopped-value Gives f f' old new s e refused runs is n (between-from s e n low (omega (arith, below, end))) below)
+
+    beside : is_between s refused.key n ≡ false → value_at new n ≡ value_at old n
+    beside out = elim (cases_lt n refused.key) [
+      | inr from ↦ stopped-same Gives f f' old new s e refused runs is n from
+      | inl below ↦ elim (cases_lt n s) [
+        | inl less ↦ stopped-other Gives f f' old new s e refused runs is n (between-below s e n less)
+        | inr low ↦ let yes = between-from s refused.key n low below in absurd (cc)
+      ]
+    ]
+
+  module _ (Step : F → V → V → F → Type 0) (K : F → Type 0) (keeps : (p q : F) (v w : V) → K p → Step p v w q → K q × (w ≡ g v)) where
+    gives : (f f' : F) (parts given : List (ℕ × Span V)) → K f → Returns Step f parts given f' → Returns Gives f parts given f'
+    gives f f' [] given holds is = is
+    gives f f' (part ∷ parts) given holds is =
+        let one = keeps f is.1 part.1.value is.0 holds is.3 in
+        (is.0, is.1, is.2, one.1, gives is.1 f' parts is.2 one.0 is.4, is.5)
+
+    -- if the action returns what a function makes of the value, as long as its calls keep this, each number has it
+    pub updated-as : {f f' : F} {old new : List (ℕ × Span V)} (s e : ℕ) → K f → AreRuns old → IsUpdated Step f f' (parts_between s e old) old new → IsMapped g old s e new
+    updated-as {f} {f'} {old} {new} s e holds runs is =
+        given-all f f' old new s e runs (record { given = is.given; returns = gives f f' (parts_between s e old) is.given holds is.returns; assigned = is.assigned })
+
+    -- so has each below the refused numbers, and the others have what they had
+    pub stopped-as : {f f' : F} {old new : List (ℕ × Span V)} (s e : ℕ) → K f → AreRuns old → (refused : RangeRefused (Span V))
+        → IsUpdatedUntil Step f f' (parts_between s e old) old new refused → IsMapped g old s refused.key new
+    stopped-as {f} {f'} {old} {new} s e holds runs refused is =
+        given-until f f' old new s e refused runs
+        (record {
+          called = is.called;
+          rest = is.rest;
+          split = is.split;
+          given = is.given;
+          returns = gives f f' is.called (is.given ++ (refused.key, refused.value) ∷ []) holds is.returns;
+          assigned = is.assigned;
+        })
+
+  module _ (Step : F → V → V → F → Type 0) {f : F} (gives : (v w : V) (q : F) → Step f v w q → (q ≡ f) × (w ≡ g v)) where
+    same-gives : (p q : F) (v w : V) → p ≡ f → Step p v w q → (q ≡ f) × (w ≡ g v)
+    same-gives p q v w same step = gives v w q (subst (λ (z : F). Step z v w q) same step)
+
+    -- if the action returns what a function makes of the value, and changes nothing, each number has it
+    pub updated-by : {f' : F} {old new : List (ℕ × Span V)} (s e : ℕ) → AreRuns old → IsUpdated Step f f' (parts_between s e old) old new → IsMapped g old s e new
+    updated-by s e runs is = updated-as Step (λ p. p ≡ f) same-gives s e refl runs is
+
+    -- so has each below the refused numbers, and the others have what they had
+    pub stopped-by : {f' : F} {old new : List (ℕ × Span V)} (s e : ℕ) → AreRuns old → (refused : RangeRefused (Span V))
+        → IsUpdatedUntil Step f f' (parts_between s e old) old new refused → IsMapped g old s refused.key new
+    stopped-by s e runs refused is = stopped-as Step (λ p. p ≡ f) same-gives s e refl runs refused is
