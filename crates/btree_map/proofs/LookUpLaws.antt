@@ -176,6 +176,7 @@ module _ {K : Type 0} {ord : K → K → Ordering} (o : IsTotalOrder ord) where
   -- a key is equal to the keys that are equal to one
   pub key-test : (q : K) → IsKeyTest (λ x y. is_eq (ord x y)) (at_query ord q)
   key-test q x y at = flip y q ∙ ap is_eq (sym (o.congr x q y (equal-from (ord x q) at)))
+
   -- by a query that is equal to the keys that are equal to one
   module _ {Q V : Type 0} (cmp : K → Q → Ordering) (q : Q) (one : IsKeyTest (λ x y. is_eq (ord x y)) (λ y. is_eq (cmp y q))) (k : K) (w : V) (xs : List (K × V)) where
     abbrev by_key : K → Bool
@@ -230,7 +231,6 @@ module _ {K : Type 0} {ord : K → K → Ordering} (o : IsTotalOrder ord) where
         by (inr not) (inr none) =
             ap (found_value cmp q) (is-put none) ∙ put-beside by_query xs (before ord k xs) (k, w) not
             ∙ sym (ap (λ b. cond b (Some w) (found_value cmp q xs)) not)
-
 
 -- ---- at keys
 module _ {K V : Type 0} {ord : K → K → Ordering} (o : IsTotalOrder ord) (k : K) (xs : List (K × V)) where
