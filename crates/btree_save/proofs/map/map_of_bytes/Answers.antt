@@ -20,3 +20,6 @@ returns-clause-refused g c = c.map_in_store.ensures.refused
 
 pub returns-clause-opens : goal.returns-clause-opens
 returns-clause-opens g c = c.map_in_store.ensures.opens
+
+pub returns-clause-uncounted : goal.returns-clause-uncounted
+returns-clause-uncounted g c = rw c.unused.ensures.refusals at c.map_in_store.ensures.uncounted

@@ -27,3 +27,6 @@ pub returns-in-Ok-clause-opens : goal.returns-in-Ok-clause-opens
 returns-in-Ok-clause-opens g c =
     opens-from g.K.Spelled.read g.V.Spelled.read g.K.Ord.cmp g.C.Fill.MayLack c.deref.result.now (g.R.Read.remaining c.args.input.now)
     (all-read (g.R.Read.remaining c.args.input.now) c.new-bytes.result.items c.read_to_end.new.buf.items c.deref.result.now c.new-bytes.ensures.items c.deref.ensures.value c.in-Ok.ensures.bytes) c.map_in_store.result c.map_in_store.ensures.opens
+
+pub returns-in-Ok-clause-uncounted : goal.returns-in-Ok-clause-uncounted
+returns-in-Ok-clause-uncounted g c = rw c.unused-nodes.ensures.refusals at c.map_in_store.ensures.uncounted
