@@ -5,6 +5,7 @@ ghost use Rattle.std.specs.Prelude.{◌≡◌, IfOk, OnErr};
 ghost use Rattle.example_maps.specs.Stock.{IsRenumberedIf};
 ghost use Rattle.btree_slab.specs.TreeState.{pairs_of};
 
+use btree_slab::BTreeExt;
 use btree_slab::generic::BTreeMap;
 use btree_slab::generic::map::Refused;
 use btree_slab::store::NodesMut;
