@@ -1,5 +1,4 @@
 //! A part that gets another number: what look-ups find after an insertion and a removal.
-#![tactic(auto, using(btree_slab::specs::Laws::look_up_laws))]
 
 ghost use Rattle.std.specs.Prelude.{◌≡◌, IfOk, OnErr};
 ghost use Rattle.example_maps.specs.Stock.{IsRenumberedIf};
