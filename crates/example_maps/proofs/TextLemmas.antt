@@ -1,5 +1,5 @@
 -- How often a word is counted after its count was written or its pair inserted.
-use Rattle.std.proofs.Common.{◌≡◌, ◌∙◌, ℕ, true, List, ◌+◌, Option, Some, None, is_some, min, option_map, refl, ap, unwrap_or}
+use Rattle.std.proofs.Common.{◌≡◌, ◌∙◌, ℕ, true, cond, List, ◌+◌, Option, Some, None, is_some, min, option_map, refl, ap, unwrap_or}
 use Rattle.std.specs.Prelude.{String, string_bytes, string_cmp}
 use Rattle.std.specs.declared.cmp.Ordering.{Ordering}
 use Rattle.btree_slab.specs.Pairs.{found, found_value, inserted, with_value}
