@@ -1,5 +1,5 @@
 -- The steps of a removal at an address: what a node returned, and the tree in between.
-use Rattle.btree_ext.proofs.Common.{◌≡◌, ◌∙◌, ◌+◌, ◌-◌, ◌<◌, ◌≤◌, ◌^◌, ℕ, suc, List, length, Option, Some, None, Ok, Err, Result, IsTrue, refl, sym, ap, subst, option_map, option_and_then, slice_get, arith, slice_get_within, IsTotalOrder, remove, Ordering, Address, Node, view_of, is_internal, leaf, children_of, item_in, items_of, size_of, address_at, WritesNode, TreeState, IsBTree, IsOffByOneAt, IsPlaceIn, IsUsed, IsValidIn, item_of, node_map, pairs_of, IsWellFormed, writes_node, with_node, HasRoom, IsRebalanced, HasChildBehind, IsInnerAt, IsRemoved, LeadsBehind}
+use Rattle.btree_ext.proofs.Common.{◌≡◌, ◌∙◌, ◌+◌, ◌-◌, ◌<◌, ◌≤◌, ◌^◌, ℕ, suc, List, length, Option, Some, None, Ok, Err, Result, IsTrue, sym, ap, subst, option_map, option_and_then, slice_get, arith, slice_get_within, IsTotalOrder, remove, Ordering, Address, Node, view_of, is_internal, leaf, children_of, item_in, items_of, size_of, address_at, WritesNode, TreeState, IsBTree, IsPlaceIn, IsUsed, item_of, node_map, pairs_of, IsWellFormed, writes_node, HasRoom, IsRebalanced, HasChildBehind, IsInnerAt, IsRemoved, LeadsBehind}
 use Rattle.std.proofs.Common.{OnOk, OnErr}
 use Rattle.std.proofs.lemmas.Option.{same_Some}
 use Rattle.std.specs.FinMap as finite

@@ -1,5 +1,5 @@
 -- An update of a pair in an internal node: the last pair under the child before it was in its place, and goes back.
-use Rattle.btree_ext.proofs.Common.{◌≡◌, ◌≢◌, ◌∙◌, ◌<◌, ◌≤◌, ℕ, zero, suc, inl, inr, List, [], ◌∷◌, length, set, Option, Some, None, IsSome, IsTrue, IsSomeAnd, refl, sym, ap, subst, option_map, option_and_then, slice_get, arith, slice_get_within, IsTotalOrder, remove, Ordering, get-insert_same, Address, Node, view_of, is_internal, with_other_item, with_other_item_at, View, leaf, item_in, items_of, most_of, size_of, HasItems, WritesNode, TreeState, Changes, IsBTree, IsUsed, item_of, node_map, same-or, with_node, IsValueExchanged, IsInnerAt}
+use Rattle.btree_ext.proofs.Common.{[], ◌≡◌, ◌≢◌, ◌∙◌, ◌<◌, ◌≤◌, ℕ, zero, suc, inl, inr, List, ◌∷◌, length, set, Option, Some, None, IsSome, IsTrue, IsSomeAnd, refl, sym, ap, subst, option_map, option_and_then, slice_get, arith, slice_get_within, IsTotalOrder, remove, Ordering, get-insert_same, Address, Node, view_of, is_internal, with_other_item, with_other_item_at, View, leaf, item_in, items_of, most_of, size_of, HasItems, WritesNode, TreeState, Changes, IsBTree, IsUsed, item_of, node_map, same-or, with_node, IsValueExchanged, IsInnerAt}
 use Rattle.std.proofs.Common.{◌++◌}
 use Rattle.std.specs.FinMap as finite
 use Rattle.btree_store.specs.ContentLaws.{get-insert_other}

@@ -1,4 +1,4 @@
-use Rattle.btree_ext.proofs.Common.{◌∙◌, Option, Some, None, IfSome, sym, ap, subst, view_of, item_of, view}
+use Rattle.btree_ext.proofs.Common.{◌∙◌, Option, Some, None, IfSome, sym, ap, subst, view_of}
 use Rattle.btree_view.specs.Edits.{with_item_at}
 use Rattle.btree_find.specs.CallerLaws.{not-vacant}
 use Rattle.btree_ext.proofs.ExchangeLemmas.{occupied-used}

@@ -1,4 +1,4 @@
-use Rattle.btree_ext.proofs.Common.{◌∙◌, Option, Some, None, IfSome, sym, ap, subst, view_of, with_other_item_at, view}
+use Rattle.btree_ext.proofs.Common.{◌∙◌, Option, Some, None, IfSome, sym, ap, subst, view_of, with_other_item_at}
 use Rattle.btree_ext.proofs.RemoveInnerLemmas.{inner-settled}
 use Rattle.btree_ext.proofs.UpdateInnerLemmas.{held-internal, held-occupied, held-used, inner-exchanged, inner-had, last-leaf, last-room, leaf-used}
 use Rattle.btree_ext.proofs.updates_at.update_inner.Goals as goal
