@@ -13,19 +13,20 @@ use Rattle.btree_laws.specs.TreeState.{TreeState, pairs_of}
 use Rattle.btree_map.specs.Editing.{WritesPeeked, entry_front, with_first}
 use Rattle.btree_map.specs.declared.cursor.editing.EntriesMut.{EntriesMut}
 
-module _ {K V : Type 0} where
-  -- the pairs, and before them x if the two answers are the same
-  abbrev pub if_same : Bool → Bool → (K × V) → List (K × V) → List (K × V)
-  if_same true true x pairs = x ∷ pairs
-  if_same true false x pairs = pairs
-  if_same false true x pairs = pairs
-  if_same false false x pairs = x ∷ pairs
+module _ {X : Type 0} where
+  -- the list, and before it x if the two answers are the same
+  abbrev pub if_same : Bool → Bool → X → List X → List X
+  if_same true true x xs = x ∷ xs
+  if_same true false x xs = xs
+  if_same false true x xs = xs
+  if_same false false x xs = x ∷ xs
 
-  -- of the pairs that were asked, as the calls left them, those with this answer
-  abbrev pub picked : Bool → List (Bool × (K × V)) → List (K × V)
+  -- of those that were asked, as the calls left them, the ones with this answer
+  abbrev pub picked : Bool → List (Bool × X) → List X
   picked answer [] = []
   picked answer ((given, x) ∷ more) = if_same answer given x (picked answer more)
 
+module _ {K V : Type 0} where
   -- if no pair is gone, every address stays
   abbrev pub KeepsAddresses : (old now : TreeState K V) → Type 0
   KeepsAddresses old now = length (pairs_of now) ≡ length (pairs_of old) → item_addresses_of now ≡ item_addresses_of old

@@ -4,7 +4,7 @@ ghost use Rattle.std.specs.Iterator.{IsFinite};
 ghost use Rattle.std.specs.Mem.{FitsInMemory};
 ghost use Rattle.btree_node.specs.contracts.node.Node.{the_row as node_row};
 ghost use Rattle.btree_item.specs.Pairs.{found, inserted};
-ghost use Rattle.btree_laws.specs.TreeState.{pairs_of, unlimited};
+ghost use Rattle.btree_laws.specs.TreeState.{IsBTree, pairs_of, unlimited};
 ghost use Rattle.btree_ext.specs.Insert.{IsRefusedAtGap};
 ghost use Rattle.btree_map.specs.Ascending.{GoesLast, IsLastGap, IsLastPair};
 ghost use Rattle.btree_map.specs.Extension.{Adds, AddsUntil, Collects, CollectsUntil, RefusesInTurn, copied_steps};
@@ -36,7 +36,8 @@ fn gap_behind<K: Ord + Drop, V: Drop, C: NodesMut<K, V>>(
     last: &Option<Address>,
 ) -> Address
     requires { IfSome last.now (IsLastPair map.now) }
-    ensures { IsLastGap map.now result }
+    ensures tree { IsBTree K.cmp map.now }
+    ensures gap { IsLastGap map.now result }
 {
     map.tell_well_formed();
     match *last {
@@ -66,7 +67,6 @@ pub fn insert_in_order<K: Ord + Drop, V: Drop, C: NodesMut<K, V>>(
         IsRefusedAtGap K.cmp key map.old map.new C.MayRefuse r.cause) }
 {
     if is_above(map, last, &key) {
-        map.tell_well_formed();
         let end = gap_behind(map, &last);
         return match map.insert_absent(end, key, value) {
             Ok(at) => Ok(Some(at)),

@@ -1,14 +1,14 @@
 -- A drain of a map without values is one of its keys.
-use Rattle.btree_set.proofs.Common.{◌≡◌, ◌∙◌, ℕ, Bool, true, false, List, [], ◌∷◌, Option, Some, None, IfSome, option_map, drop, length, ◌<◌, arith, refl, sym, ap, subst, keys_of, pairs_of, CallableOnEach, SetState, set_of}
+use Rattle.btree_set.proofs.Common.{[], ◌≡◌, ◌∙◌, ℕ, Bool, true, false, List, ◌∷◌, Option, Some, None, IfSome, option_map, drop, length, ◌<◌, arith, refl, sym, ap, subst, keys_of, pairs_of, CallableOnEach, SetState, set_of}
 use Rattle.std.proofs.Common.{zero, suc, ◌++◌, map, take}
 use Rattle.std.proofs.lemmas.List.{length-append}
 use Rattle.std.specs.Iterator.{MakesProgress, at_most}
 use Rattle.std.specs.List.{FoldsTo}
 use Rattle.std.specs.Map.Calls.{CallableOnEachPair, SomeCallAtPair}
 use Rattle.btree_laws.specs.TreeState.{TreeState}
-use Rattle.btree_map.specs.Drain.{Asks as PairAsks, Selects as PairSelects, RunsTest as PairRunsTest, RunsOut as PairRunsOut, Yields as PairYields, if_same as if_same_pair, picked as picked_pairs}
+use Rattle.btree_map.specs.Drain.{Asks as PairAsks, Selects as PairSelects, RunsTest as PairRunsTest, RunsOut as PairRunsOut, Yields as PairYields, if_same, picked}
 use Rattle.btree_map.proofs.DrainRuns.{cons-tail}
-use Rattle.btree_set.specs.Drain.{Asks, RunsOut, RunsTest, Selects, SomeCallAt, Yields, if_same, picked}
+use Rattle.btree_set.specs.Drain.{Asks, RunsOut, RunsTest, Selects, SomeCallAt, Yields}
 
 module _ {T : Type 0} where
   same-head : {x y : T} {xs ys : List T} → x ∷ xs ≡ y ∷ ys → x ≡ y
@@ -66,15 +66,15 @@ module _ {T V : Type 0} where
   answers-append [] more = refl
   answers-append (a ∷ asked) more = ap (λ (l : List (Bool × T)). (a.0, a.1.0) ∷ l) (answers-append asked more)
 
-  picked-one : (answer b : Bool) (x : T × V) (ps : List (T × V)) → keys_of (if_same_pair answer b x ps) ≡ if_same answer b x.0 (keys_of ps)
+  picked-one : (answer b : Bool) (x : T × V) (ps : List (T × V)) → keys_of (if_same answer b x ps) ≡ if_same answer b x.0 (keys_of ps)
   picked-one true true x ps = refl
   picked-one true false x ps = refl
   picked-one false true x ps = refl
   picked-one false false x ps = refl
 
-  picked-keys : (answer : Bool) (asked : List (Bool × (T × V))) → keys_of (picked_pairs answer asked) ≡ picked answer (answers_of asked)
+  picked-keys : (answer : Bool) (asked : List (Bool × (T × V))) → keys_of (picked answer asked) ≡ picked answer (answers_of asked)
   picked-keys answer [] = refl
-  picked-keys answer ((b, x) ∷ more) = picked-one answer b x (picked_pairs answer more) ∙ ap (if_same answer b x.0) (picked-keys answer more)
+  picked-keys answer ((b, x) ∷ more) = picked-one answer b x (picked answer more) ∙ ap (if_same answer b x.0) (picked-keys answer more)
 
 module _ {F T : Type 0} (Step : F → T → Bool → F → Type 0) where
   -- the same call, beside a value that stays
@@ -131,11 +131,11 @@ module _ {F T : Type 0} (Step : F → T → Bool → F → Type 0) where
           ∙ ap (λ (l : List T). keys_of run.here ++ l) (sym (drop-keys front' (pairs_of new)));
       calls = asks-keys f f' run.here asked run.calls;
       passed =
-          take-keys front' (pairs_of new) ∙ ap keys_of run.passed ∙ keys-append (take front (pairs_of old)) (picked_pairs false asked)
-          ∙ ap (λ (l : List T). l ++ keys_of (picked_pairs false asked)) (sym (take-keys front (pairs_of old)))
+          take-keys front' (pairs_of new) ∙ ap keys_of run.passed ∙ keys-append (take front (pairs_of old)) (picked false asked)
+          ∙ ap (λ (l : List T). l ++ keys_of (picked false asked)) (sym (take-keys front (pairs_of old)))
           ∙ ap (λ (l : List T). take front (keys_of (pairs_of old)) ++ l) (picked-keys false asked);
       uncounted = run.uncounted;
-      addresses = λ none. run.addresses (no-keys (picked_pairs true asked) (picked-keys true asked ∙ none));
+      addresses = λ none. run.addresses (no-keys (picked true asked) (picked-keys true asked ∙ none));
     }
 
     yields-some : (x : T × Unit {0}) → PairYields PairStep true f f' old front new front' (Some x) → Yields Step f f' (set_of old) front (set_of new) front' (Some x.0)
@@ -164,9 +164,9 @@ module _ {F T : Type 0} (Step : F → T → Bool → F → Type 0) where
     calls = subst (λ (l : List T). Asks Step f l (answers_of run.asked) run.last) (sym (drop-keys front (pairs_of old)))
         (asks-keys f run.last (drop front (pairs_of old)) run.asked run.calls);
     elements =
-        ap keys_of run.pairs ∙ keys-append (take front (pairs_of old)) (picked_pairs false run.asked)
-        ∙ ap (λ (l : List T). l ++ keys_of (picked_pairs false run.asked)) (sym (take-keys front (pairs_of old)))
+        ap keys_of run.pairs ∙ keys-append (take front (pairs_of old)) (picked false run.asked)
+        ∙ ap (λ (l : List T). l ++ keys_of (picked false run.asked)) (sym (take-keys front (pairs_of old)))
         ∙ ap (λ (l : List T). take front (keys_of (pairs_of old)) ++ l) (picked-keys false run.asked);
     uncounted = run.uncounted;
-    addresses = λ none. run.addresses (no-keys (picked_pairs true run.asked) (picked-keys true run.asked ∙ none));
+    addresses = λ none. run.addresses (no-keys (picked true run.asked) (picked-keys true run.asked ∙ none));
   }

@@ -1,5 +1,5 @@
 -- Drains of a set. A closure is called once at each element, in order: `Asks` is such a run, with each answer beside its
--- element, and `picked` are the elements with one answer. `Selects` is a run over a whole list. `IsDraining` is what a drain
+-- element, and `picked` of `btree_map` are the elements with one answer. `Selects` is a run over a whole list. `IsDraining` is what a drain
 -- is between its steps, `DrainsNext` a step of it, and `LetsGo` its end.
 use Rattle.std.specs.Prelude.{◌≡◌, ◌≤◌, ℕ, Bool, true, false, List, [], ◌∷◌, ◌++◌, Option, MatchOption, drop, length, slice_get, take}
 use Rattle.std.specs.Fn.{CalledAt, TakesAt}
@@ -7,21 +7,9 @@ use Rattle.std.specs.List.{FoldsTo}
 use denote.Ref.{Bor}
 use denote.Param.Members.{Mut}
 use Rattle.btree_laws.specs.TreeAddresses.{item_addresses_of}
+use Rattle.btree_map.specs.Drain.{picked}
 use Rattle.btree_set.specs.Elements.{SetState}
 use Rattle.btree_set.specs.declared.drain.DrainFilter.{DrainFilter}
-
-module _ {T : Type 0} where
-  -- the elements, and before them x if the two answers are the same
-  abbrev pub if_same : Bool → Bool → T → List T → List T
-  if_same true true x xs = x ∷ xs
-  if_same true false x xs = xs
-  if_same false true x xs = xs
-  if_same false false x xs = x ∷ xs
-
-  -- of the elements that were asked, those with this answer
-  abbrev pub picked : Bool → List (Bool × T) → List T
-  picked answer [] = []
-  picked answer ((given, x) ∷ more) = if_same answer given x (picked answer more)
 
 module _ {F T : Type 0} (Step : F → T → Bool → F → Type 0) where
   -- a call at x may take f to f'

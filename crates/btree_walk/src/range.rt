@@ -51,6 +51,7 @@ fn last_left<'a, K: Ord + 'a, V: 'a, C: NodesMut<K, V> + 'a>(
 ) -> Option<(&'a K, &'a V)>
     requires back { IsBack tree.now back.old }
     requires behind { IsBehindIn tree.now (Some last) back.old }
+    requires rises { Ascends K.cmp (pairs_of tree.now) }
     ensures back { IsBack tree.now back.new }
     ensures behind { IsBehindIn tree.now result back.new }
     ensures same { LeavesSame tree.now K.cmp (Some last.entry) is_left result }
@@ -58,7 +59,6 @@ fn last_left<'a, K: Ord + 'a, V: 'a, C: NodesMut<K, V> + 'a>(
     if is_left {
         return Some(last);
     }
-    tree.tell_well_formed();
     if let Some(back) = back {
         return back.next_back(tree);
     }
@@ -88,6 +88,7 @@ pub struct Range<'a, K: Ord, V, C: NodesMut<K, V>> {
 
 impl<'a, K: Ord, V, C: NodesMut<K, V>> Model for Range<'a, K, V, C> {
     ghost use Rattle.std.specs.Prelude.{List};
+    ghost use Rattle.btree_item.specs.Pairs.{Ascends};
     ghost use Rattle.btree_laws.specs.TreeState.{pairs_of};
     ghost use Rattle.btree_walk.specs.Ranges.{IsAhead, IsBack, IsBehind, behind_in, from_first, left_until, pair_now};
     ghost use Rattle.btree_walk.specs.Rows.{AreAncestors, remaining_after};
@@ -100,7 +101,8 @@ impl<'a, K: Ord, V, C: NodesMut<K, V>> Model for Range<'a, K, V, C> {
         × AreAncestors it.tree.now it.ancestors
         × IsAhead (pairs_of it.tree.now) (pair_now it.first) (remaining_after it.tree.now it.run it.ancestors)
         × IsBack it.tree.now it.back
-        × IsBehind (pairs_of it.tree.now) (pair_now it.last) (behind_in it.tree.now it.back) };
+        × IsBehind (pairs_of it.tree.now) (pair_now it.last) (behind_in it.tree.now it.back)
+        × Ascends K.cmp (pairs_of it.tree.now) };
 }
 
 impl<'a, K: Ord, V, C: NodesMut<K, V>> Range<'a, K, V, C> {
@@ -113,7 +115,7 @@ impl<'a, K: Ord, V, C: NodesMut<K, V>> Range<'a, K, V, C> {
         ensures { result ≡ pairs_between K.cmp range.entry (pairs_of tree.now) }
     {
         tree.tell_fits();
-        // For the prover: the iterator keeps the fact that a node fits in memory.
+        // For the prover: the iterator keeps the facts that a node fits in memory, and that the keys ascend.
         C::note_fits();
         tree.tell_well_formed();
         let (start, end) = range;
@@ -148,7 +150,6 @@ impl<'a, K: Ord, V, C: NodesMut<K, V>> Iterator for Range<'a, K, V, C> {
             return None;
         };
         C::tell_fits();
-        self.tree.tell_well_formed();
         if first.0 < last.0 {
             self.first = next_pair(self.tree, &mut self.run, &mut self.ancestors);
             return Some(first);
@@ -188,7 +189,6 @@ impl<'a, K: Ord, V, C: NodesMut<K, V>> DoubleEndedIterator for Range<'a, K, V, C
             return None;
         };
         C::tell_fits();
-        self.tree.tell_well_formed();
         let Some(last) = last_left(self.tree, &mut self.back, last, self.is_left) else {
             self.last = None;
             return None;

@@ -1,6 +1,7 @@
 //! A walk forward and a walk backward, each from a bound on the keys.
 ghost use Rattle.std.specs.Prelude.{◌≡◌, []};
 ghost use Rattle.std.specs.declared.ops.Bound.TheVariants.{Excluded, Included};
+ghost use Rattle.btree_item.specs.Pairs.{Ascends};
 ghost use Rattle.btree_laws.specs.TreeState.{pairs_of};
 ghost use Rattle.btree_walk.specs.Bounds.{bound_key, pairs_from, pairs_up_to};
 ghost use Rattle.btree_walk.specs.Given.{GivesFirstFrom, GivesLastUpTo};
@@ -12,7 +13,7 @@ use crate::ancestors::{Ancestors, next_above, next_in_leaf, start};
 use crate::at_key::{end_at, start_from};
 use crate::backward::{end, last_in_run, previous_above, run_to};
 use crate::fetched::Fetched;
-use btree_ext::{BTreeExt, Tree};
+use btree_ext::Tree;
 use btree_item::{Item, Slots, SlotsIter};
 use btree_node::{LeafNode, NodesMut};
 use std::ops::Bound;
@@ -99,10 +100,10 @@ impl<'a, K: Ord + 'a, V: 'a> Front<'a, K, V> {
         key: &K,
     ) -> Option<(&'a K, &'a V)>
         requires none { self.old.ancestors ≡ [] }
+        requires rises { Ascends K.cmp (pairs_of tree.now) }
         ensures above { AreAncestors tree.now self.new.ancestors }
         ensures first { GivesFirstFrom tree.now K.cmp (Excluded key.now) result self.new }
     {
-        tree.tell_well_formed();
         self.start_from(tree, key);
         let Some(pair) = self.next(tree) else {
             return None;
@@ -120,6 +121,7 @@ impl<'a, K: Ord + 'a, V: 'a> Front<'a, K, V> {
         bound: Bound<&K>,
     ) -> Option<(&'a K, &'a V)>
         requires none { self.old.ancestors ≡ [] }
+        requires rises { Ascends K.cmp (pairs_of tree.now) }
         ensures above { AreAncestors tree.now self.new.ancestors }
         ensures first { GivesFirstFrom tree.now K.cmp (bound_key bound.entry) result self.new }
     {
@@ -227,11 +229,11 @@ impl<'a, K: Ord + 'a, V: 'a> Back<'a, K, V> {
     ) -> Option<(&'a K, &'a V)>
         requires none { self.old.ancestors ≡ [] }
         requires fetched { AreFetched tree.now self.old.fetched }
+        requires rises { Ascends K.cmp (pairs_of tree.now) }
         ensures above { AreAncestorsBefore tree.now self.new.ancestors }
         ensures fetched { AreFetched tree.now self.new.fetched }
         ensures last { GivesLastUpTo tree.now K.cmp (Excluded key.now) result self.new }
     {
-        tree.tell_well_formed();
         self.start_at(tree, key);
         let Some(pair) = self.next_back(tree) else {
             return None;

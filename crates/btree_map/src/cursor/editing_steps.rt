@@ -164,10 +164,7 @@ impl<'a, K: Ord + Drop, V: Drop, C: NodesMut<K, V>> EntriesMut<'a, K, V, C> {
                 self.known = one_more(self.known);
                 Ok(())
             }
-            Err(refused) => {
-                self.map.tell_well_formed();
-                Err(refused)
-            }
+            Err(refused) => Err(refused),
         }
     }
 

@@ -40,9 +40,9 @@ fn last_up_to<K: Ord, V, C: NodesMut<K, V>>(
     map: &BTreeMap<K, V, C>,
     end: Bound<&K>,
 ) -> Option<Address>
+    requires { IsBTree K.cmp map.now }
     ensures { result ≡ last_address K.cmp (bound_key end.entry) map.now }
 {
-    map.tell_well_formed();
     match end {
         Bound::Unbounded => return map.last_item_address(),
         Bound::Included(key) => match map.address_of(key) {
@@ -62,12 +62,11 @@ fn are_in_order<K: Ord, V, C: NodesMut<K, V>>(
     first: &Option<Address>,
     last: &Option<Address>,
 ) -> bool
+    requires tree { IsBTree K.cmp map.now }
     requires first { IsFirstListed map.now first.now }
     requires last { IsLastListed map.now last.now }
-    ensures tree { IsBTree K.cmp map.now }
-    ensures value { result ≡ nat_lt (item_index map.now first.now) (next_index map.now last.now) }
+    ensures { result ≡ nat_lt (item_index map.now first.now) (next_index map.now last.now) }
 {
-    map.tell_well_formed();
     let Some(low) = *first else {
         return false;
     };

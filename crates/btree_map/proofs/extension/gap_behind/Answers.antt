@@ -4,8 +4,8 @@ use Rattle.btree_item.specs.declared.address.Address.TheView.{view}
 use Rattle.btree_map.proofs.BehindLemmas.{behind}
 use Rattle.btree_map.proofs.extension.gap_behind.Goals as goal
 
-pub returns-in-Some : goal.returns-in-Some
-returns-in-Some g c =
+pub returns-in-Some-clause-gap : goal.returns-in-Some-clause-gap
+returns-in-Some-clause-gap g c =
     let s = c.args.map.now in
     let given = subst (λ o. IfSome o (IsLastPair s)) c.in-Some.is c.requires in
     let last = rw (← c.at.view_is) at given in

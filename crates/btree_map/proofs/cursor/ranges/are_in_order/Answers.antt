@@ -23,15 +23,15 @@ unreachable-requires-in_default-item-2 g c =
     let no = subst (λ o. IsSome o) c.in_default-item-2.is (c.item-2.ensures.occupied.1 occupied) in
     absurd (cc)
 
-pub returns-clause-value : goal.returns-clause-value
-returns-clause-value g c =
+pub returns : goal.returns
+returns g c =
     let s = c.args.map.now in
     let list = item_addresses_of s in
     let low = c.in-Some.low in
     let high = c.in-Some-last.high in
     c.is_le.ensures
     ∙ ap is_le (c.cmp.ensures ∙ (λ i. g.K.Ord.cmp (c.key.ensures i) (c.key-2.ensures i)))
-    ∙ ends-ordered g.K.Ord.cmp g.met.K.Ord.total s c.tell_well_formed.ensures.well_formed low high c.in-Some-item.low.now c.in-Some-item-2.high.now
+    ∙ ends-ordered g.K.Ord.cmp g.met.K.Ord.total s c.requires.tree low high c.in-Some-item.low.now c.in-Some-item-2.high.now
     (own-first list c.args.first.now low c.in-Some.is c.requires.first)
     (own-last list c.args.last.now high c.in-Some-last.is c.requires.last)
     (sym c.item.ensures.value ∙ ap option_copied c.in-Some-item.is)

@@ -35,6 +35,7 @@ invariant_of-result g c =
           (begins-ahead g.met.K.Ord.total pairs up lo hi first ahead c.first-first.ensures.first),
       tt,
       begins-behind g.met.K.Ord.total pairs up lo hi first ahead c.first-first.ensures.first (pair_now c.last_from-last.result) c.last_from-last.ensures,
+      c.tell_well_formed.ensures.well_formed.ascends,
     )
 
 pub returns : goal.returns
