@@ -1,12 +1,12 @@
 -- A forward walk that starts at a key, from the root down.
-use Rattle.btree_walk.proofs.Common.{[], ◌≡◌, ℕ, List, ◌∷◌, ◌++◌, length, map, drop, slice_get, Option, Some, None, Result, Ok, Err, refl, sym, ap, subst, ◌∙◌, entries_between, IsTotalOrder, AllByRecursion, Ordering, Greater, Less, Included, Unbounded, cuts_of, place_of, Node, view_of, internal, leaf, Rises, searched, side, AllByRecursion-append, AllByRecursion-right, Ancestor, TreeState}
+use Rattle.btree_walk.proofs.Common.{[], ◌≡◌, ℕ, suc, List, ◌∷◌, ◌++◌, length, map, drop, slice_get, Option, Some, None, Result, Ok, Err, refl, sym, ap, subst, ◌∙◌, entries_between, IsTotalOrder, Ordering, Greater, Less, Included, Unbounded, cuts_of, place_of, Node, view_of, internal, leaf, Rises, searched, side, AllByRecursion-append, AllByRecursion-right, Ancestor, TreeState, node_map, list_under, remaining_in, preceding_in, with_child_before}
 use Rattle.std.specs.FinMap as finite
 use Rattle.btree_walk.specs.AtKey.{below_in, below_place}
 use Rattle.btree_walk.proofs.AroundLemmas.{IsAround, between, found, inside, leaf-list, leaf-rises, parts-leaf, some-child}
 use Rattle.btree_walk.proofs.AtKeyLemmas.{drop-front, pair-left, pair-right}
 use Rattle.btree_walk.proofs.BetweenLemmas.{from-hit, from-miss}
 use Rattle.btree_walk.proofs.WalkLemmas.{ahead, row_of}
-use Rattle.btree_walk.proofs.WayLemmas.{AreOpen, Under, left, pushed, rows_by}
+use Rattle.btree_walk.proofs.WayLemmas.{AreOpen, AreUnder, Under, left, pushed, rows_by}
 
 module _ {K V : Type 0} (cmp : K → K → Ordering) (k : K) (tree : TreeState K V) (whole : List (K × V)) where
   -- the walk has come to node `id`: the items before it are below the key, and those left in the ancestors are above
@@ -20,6 +20,9 @@ module _ {K V : Type 0} {cmp : K → K → Ordering} (laws : IsTotalOrder cmp) {
     {ancestors : List (Ancestor K V)} {id : ℕ} (d : IsFrom cmp k tree whole ancestors id) (node : Node K V) (here : finite.get tree.nodes id ≡ Some node) where
   abbrev above : List (K × V)
   above = left (ahead tree) ancestors
+
+  abbrev deeper : ℕ
+  deeper = suc (length (rows_by (ahead tree) ancestors))
 
   -- a leaf: its items that are not below the key, and those left in the ancestors, are left
   pub from-leaf : (p : Option ℕ) (ys : List (K × V)) → view_of node ≡ leaf p ys → (index : ℕ) (next : Option ℕ)
@@ -62,10 +65,11 @@ module _ {K V : Type 0} {cmp : K → K → Ordering} (laws : IsTotalOrder cmp) {
         at (Ok i) e cut =
             let h = found laws up d.around d.under node here p first bs is i e in
             let low : f.passed ≡ length h.left = pair-left f.passed i None None cut ∙ h.counted in
-            let all = subst (λ l. AllByRecursion (λ (b : (K × V) × ℕ). Under tree _ b.1) l) h.is (inside laws up d.around d.under node here p first bs is).row_under in
+            let all = subst (λ l. AreUnder tree deeper l) h.is (inside laws up d.around d.under node here p first bs is).row_under in
             let more = pushed (ahead tree) ancestors f d.rows made (row ∙ ap (drop f.passed) h.is ∙ drop-front h.left (h.branch ∷ h.right) f.passed low)
-            (AllByRecursion-right (λ (b : (K × V) × ℕ). Under tree _ b.1) h.left (h.branch ∷ h.right) all) in
-            (more.rows, more.list ∙ from-hit cmp k laws whole up _ h.branch.0 _ h.list h.same)
+            (AllByRecursion-right (λ (b : (K × V) × ℕ). Under tree deeper b.1) h.left (h.branch ∷ h.right) all) in
+            (more.rows, more.list ∙ from-hit cmp k laws whole up (d.before ++ (list_under tree first ++ remaining_in (node_map tree) (finite.len tree.nodes) h.left)) h.branch.0
+                ((list_under tree h.branch.1 ++ remaining_in (node_map tree) (finite.len tree.nodes) h.right) ++ above) h.list h.same)
         at (Err i) e cut =
             absurd (some-child laws up d.around d.under node here p first bs is i e (sym (pair-right f.passed i None (slice_get (first ∷ map (λ b. b.1) bs) i) cut)))
 
@@ -79,12 +83,12 @@ module _ {K V : Type 0} {cmp : K → K → Ordering} (laws : IsTotalOrder cmp) {
             let get = sym (pair-right f.passed i (Some child) (slice_get (first ∷ map (λ b. b.1) bs) i) cut) in
             let b = between laws up d.around d.under node here p first bs is i e child get in
             let low : f.passed ≡ length b.left = pair-left f.passed i (Some child) (slice_get (first ∷ map (λ b. b.1) bs) i) cut ∙ b.counted in
-            let all = subst (λ l. AllByRecursion (λ (b : (K × V) × ℕ). Under tree _ b.1) l) b.is (inside laws up d.around d.under node here p first bs is).row_under in
+            let all = subst (λ l. AreUnder tree deeper l) b.is (inside laws up d.around d.under node here p first bs is).row_under in
             let more = pushed (ahead tree) ancestors f d.rows made (row ∙ ap (drop f.passed) b.is ∙ drop-front b.left b.right f.passed low)
-            (AllByRecursion-right (λ (b : (K × V) × ℕ). Under tree _ b.1) b.left b.right all) in
+            (AllByRecursion-right (λ (b : (K × V) × ℕ). Under tree deeper b.1) b.left b.right all) in
             record {
               rows = more.rows;
               under = subst (λ n. Under tree n child) (sym more.deeper) b.under;
-              before = _;
-              around = subst (λ l. IsAround cmp k whole tree child _ l) (sym more.list) b.around;
+              before = d.before ++ preceding_in (node_map tree) (finite.len tree.nodes) (with_child_before first b.left);
+              around = subst (λ l. IsAround cmp k whole tree child (d.before ++ preceding_in (node_map tree) (finite.len tree.nodes) (with_child_before first b.left)) l) (sym more.list) b.around;
             }

@@ -1,5 +1,5 @@
 -- A backward walk that starts at a key, from the root down.
-use Rattle.btree_walk.proofs.Common.{[], ◌≡◌, ℕ, zero, suc, ◌+◌, ◌-◌, ◌≤◌, List, ◌∷◌, ◌++◌, length, map, take, slice_get, Option, Some, None, Result, Ok, Err, refl, sym, ap, subst, ◌∙◌, arith, append_assoc, append-nil, length_push, take_at, entries_between, IsTotalOrder, AllByRecursion, Ordering, Greater, Less, Included, Unbounded, cuts_of, place_of, Node, view_of, NodeMap, View, internal, leaf, size_of, remaining_in, represented, Rises, searched, side, AllByRecursion-append, preceding_in, row_before, with_child_before, Ancestor, TreeState, node_map}
+use Rattle.btree_walk.proofs.Common.{[], ◌≡◌, ℕ, zero, suc, ◌+◌, ◌-◌, ◌≤◌, List, ◌∷◌, ◌++◌, length, map, take, slice_get, Option, Some, None, Result, Ok, Err, refl, sym, ap, subst, ◌∙◌, arith, append_assoc, append-nil, length_push, take_at, entries_between, IsTotalOrder, AllByRecursion, Ordering, Greater, Less, Included, Unbounded, cuts_of, place_of, Node, view_of, NodeMap, View, internal, leaf, size_of, remaining_in, represented, Rises, searched, side, AllByRecursion-append, preceding_in, row_before, with_child_before, Ancestor, TreeState, node_map, list_under}
 use Rattle.std.specs.FinMap as finite
 use Rattle.btree_laws.proofs.Paths.Frames.{AllByRecursion-left}
 use Rattle.btree_walk.specs.AtKey.{up_to_in, up_to_place}
@@ -113,7 +113,8 @@ module _ {K V : Type 0} {cmp : K → K → Ordering} (laws : IsTotalOrder cmp) {
               more.list
                   ∙ ap (λ l. above ++ l) (before-item (node_map tree) (finite.len tree.nodes) first h.left h.branch)
                   ∙ sym (append_assoc above (represented (node_map tree) (finite.len tree.nodes) first ++ remaining_in (node_map tree) (finite.len tree.nodes) h.left) (h.branch.0 ∷ []))
-                  ∙ up_to-hit cmp k laws whole up _ h.branch.0 _ h.list h.same,
+                  ∙ up_to-hit cmp k laws whole up (above ++ (list_under tree first ++ remaining_in (node_map tree) (finite.len tree.nodes) h.left)) h.branch.0
+                  ((list_under tree h.branch.1 ++ remaining_in (node_map tree) (finite.len tree.nodes) h.right) ++ d.after) h.list h.same,
             )
         at (Err i) e cut =
             absurd (some-child laws up d.around d.under node here p first bs is i e (sym (pair-right kept i None (slice_get (first ∷ map (λ b. b.1) bs) i) cut)))
@@ -133,6 +134,6 @@ module _ {K V : Type 0} {cmp : K → K → Ordering} (laws : IsTotalOrder cmp) {
             record {
               rows = more.rows;
               under = subst (λ n. Under tree n child) (sym more.deeper) b.under;
-              after = _;
-              around = subst (λ l. IsAround cmp k whole tree child l _) (sym more.list) b.around;
+              after = remaining_in (node_map tree) (finite.len tree.nodes) b.right ++ d.after;
+              around = subst (λ l. IsAround cmp k whole tree child l (remaining_in (node_map tree) (finite.len tree.nodes) b.right ++ d.after)) (sym more.list) b.around;
             }
