@@ -1,6 +1,7 @@
 -- What callers conclude of look-ups: what a key, a text or another query finds in a list of pairs after a pair was inserted or removed.
--- `inserted-key` and its like are for keys, `inserted-text` for keys that are strings; `inserted-by`, `removed-here` and `removed-apart` for
--- any query.
+-- `inserted-key` and its like are for keys, `inserted-text` and its like for keys that are strings and texts that are sought; `inserted-by`,
+-- `removed-here` and `removed-apart` for any query. What a string finds is what its text, `string_bytes` of it, finds: the two are equal as
+-- they stand.
 use Rattle.std.proofs.Common.{◌≡◌, ◌∙◌, ◌+◌, ℕ, zero, suc, Bool, true, false, cond, List, [], ◌∷◌, Option, Some, None, is_some, option_map, if◌then◌else◌, refl, sym, ap, arith, ◌⊎◌, inl, inr, Ordering, String}
 use Rattle.std.specs.Prelude.{string_bytes, string_cmp}
 use Rattle.std.proofs.lemmas.Bool.{cases_Bool}
@@ -278,14 +279,45 @@ module _ {A : Type 0} where
   text-test text x y at = flip nat_list_cmp_total (string_bytes y) text
       ∙ ap is_eq (sym (nat_list_cmp_total.congr (string_bytes x) text (string_bytes y) (equal-from (by_text x text) at)))
 
+  -- a text divides strings in their order
+  pub text-cuts : Cuts {K = String A} string_cmp by_text
+  text-cuts = cuts_by nat_list_cmp_total string_bytes (λ t. t)
+
+  -- no string is equal to two texts
+  one-text : (text other : List ℕ) → (text ≡ other → ⊥) → (word : String A) → is_eq (by_text word text) ≡ true → is_eq (by_text word other) ≡ false
+  one-text text other differ word at =
+      text-apart word other (λ same. differ (sym (exact_bytes (string_bytes word) text (equal-from (by_text word text) at)) ∙ same))
+
   module _ {V : Type 0} (xs : List (String A × V)) where
     -- a text finds the value that was inserted under a string of it, and else what it found before
     pub inserted-text : (word : String A) (w : V) (text : List ℕ)
         → found_value by_text text (inserted string_cmp word w xs) ≡ cond (is_eq (by_text word text)) (Some w) (found_value by_text text xs)
     inserted-text word w text = inserted-by string_cmp_total by_text text (text-test text) word w xs
 
+    -- another text than that of the string finds what it found before
+    pub inserted-text-other : (word : String A) (w : V) (text : List ℕ) → (string_bytes word ≡ text → ⊥)
+        → found_value by_text text (inserted string_cmp word w xs) ≡ found_value by_text text xs
+    inserted-text-other word w text differ = inserted-text word w text ∙ ap (λ b. cond b (Some w) (found_value by_text text xs)) (text-apart word text differ)
+
     -- a text whose string was removed finds nothing
     pub removed-text : (text : List ℕ) → Ascends string_cmp xs → found_value by_text text (removed by_text text xs) ≡ None
-    removed-text text up = removed-here by_text (cuts_by nat_list_cmp_total string_bytes (λ t. t)) text xs up
+    removed-text text up = removed-here by_text text-cuts text xs up
 
-pub ruleset look_up_laws = (inserted-key, inserted-other, removed-key, removed-other, number-apart, text-same, text-apart, inserted-text, removed-text)
+    -- another text finds what it found before
+    pub removed-text-other : (text other : List ℕ) → (text ≡ other → ⊥) → Ascends string_cmp xs
+        → found_value by_text other (removed by_text text xs) ≡ found_value by_text other xs
+    removed-text-other text other differ up = removed-apart by_text text-cuts text by_text other (one-text text other differ) xs up
+
+pub ruleset look_up_laws = (
+  inserted-key,
+  inserted-other,
+  removed-key,
+  removed-other,
+  number-apart,
+  text-same,
+  text-apart,
+  inserted-text,
+  inserted-text-other,
+  removed-text,
+  removed-text-other,
+)

@@ -1,5 +1,5 @@
 -- What a count of numbers is, from which of them pass the test.
-use Rattle.std.proofs.Common.{◌≡◌, ◌≤◌, ◌<◌, ◌+◌, ◌-◌, ◌∙◌, ◌||◌, ℕ, zero, suc, Bool, true, false, cond, refl, ap, arith}
+use Rattle.std.proofs.Common.{◌≡◌, ◌≤◌, ◌<◌, ◌+◌, ◌-◌, ◌∙◌, ◌||◌, not, ℕ, zero, suc, Bool, true, false, cond, refl, ap, arith}
 use Rattle.btree_range_set.specs.CallerLaws.{within-from, within-high, within-low, within-not}
 use Rattle.btree_range_set.specs.Counts.{count_from}
 use Rattle.btree_range_set.specs.Ranges.{is_within}
@@ -10,6 +10,10 @@ one b = cond b 1 0
 least : (b : Bool) → one b ≤ 1
 least true = let is : one true ≡ 1 = refl in omega (arith, is)
 least false = let is : one false ≡ 0 = refl in omega (arith, is)
+
+either : (b : Bool) → one b + one (not b) ≡ 1
+either true = refl
+either false = refl
 
 module _ (test : ℕ → Bool) where
   -- at most all of them pass
@@ -44,6 +48,14 @@ module _ (test : ℕ → Bool) where
       let here : one (test start) ≡ 1 = ap one (passes start (omega arith) (omega arith)) in
       let rest : count_from test (suc start) count ≡ count = count-all (suc start) count (λ n low high. passes n (omega arith) (omega arith)) in
       omega (arith, here, rest)
+
+  -- those that pass and those that do not are all of them
+  pub count-not : (start count : ℕ) → count_from test start count + count_from (λ n. not (test n)) start count ≡ count
+  count-not start zero = omega arith
+  count-not start (suc count) =
+      let rest : count_from test (suc start) count + count_from (λ n. not (test n)) (suc start) count ≡ count = count-not (suc start) count in
+      let here : one (test start) + one (not (test start)) ≡ 1 = either (test start) in
+      omega (arith, rest, here)
 
 -- if the tests agree on them, the counts do
 pub count-same : (test other : ℕ → Bool) (start count : ℕ) → ((n : ℕ) → start ≤ n → n < start + count → test n ≡ other n) → count_from test start count ≡ count_from other start count

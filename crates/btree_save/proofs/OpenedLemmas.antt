@@ -1,6 +1,7 @@
 -- Why bytes are not opened, and that those of a map are.
 use Rattle.std.proofs.Common.{◌≡◌, ℕ, List, [], ◌++◌, length, Option, Some, None, Result, Ok, Err, refl, sym, ap, subst, ◌∙◌}
-use Rattle.std.specs.Prelude.{IfErr, IfOk, IfSome}
+use Rattle.std.specs.Prelude.{IfErr, IfOk, IfSome, OnOk}
+use Rattle.std.specs.Io.KnownBytes.{IsAtEnd}
 use Rattle.std.specs.declared.cmp.Ordering.{Ordering}
 use Rattle.btree_laws.specs.TreeState.{TreeState}
 use Rattle.btree_raw.specs.Limit.{IsBTreeWithinLimit}
@@ -15,7 +16,7 @@ use Rattle.btree_image.proofs.RoomLaws.{lacks-node}
 use Rattle.btree_save.specs.declared.error.OpenError.{OpenError}
 use Rattle.btree_save.specs.declared.error.OpenError.TheVariants as errors
 use Rattle.btree_save.specs.Errors.{error_of}
-use Rattle.btree_save.specs.Opened.{IsErrorFrom, IsNoFaultOf, IsOpenedFrom, IsRefusedBy, Opens, OpensFrom}
+use Rattle.btree_save.specs.Opened.{IsErrorFrom, IsNoFaultOf, IsOpenedFrom, IsReadToEnd, IsRefusedBy, Opens, OpensFrom}
 
 module _ {K V : Type 0} (read_key : Read K) (read_value : Read V) (cmp : K → K → Ordering) (MayLack : ℕ → Type 0) (bytes : List ℕ) where
   abbrev lacks : Type 0
@@ -63,3 +64,17 @@ module _ {K V : Type 0} (read_key : Read K) (read_value : Read V) (cmp : K → K
 pub all-read : (remaining : Option (List ℕ)) (start end bytes : List ℕ) → start ≡ [] → bytes ≡ end → IfSome remaining (λ xs. end ≡ start ++ xs) → IfSome remaining (λ left. bytes ≡ left)
 all-read None start end bytes none is h = tt
 all-read (Some xs) start end bytes none is h = is ∙ h ∙ ap (λ (t : List ℕ). t ++ xs) none
+
+-- what it gave is opened or not: it is at its end
+pub to-end : {T : Type 0} {remaining : Option (List ℕ)} (r : Result T OpenError) → IsAtEnd remaining → OnOk r (IsAtEnd remaining)
+to-end (Ok s) end = end
+to-end (Err e) end = tt
+
+pub to-end-at-fault : {T : Type 0} {remaining : Option (List ℕ)} (r : Result T OpenError) → IsAtEnd remaining → IfErr r (IsReadToEnd remaining)
+to-end-at-fault (Ok s) end = tt
+to-end-at-fault {remaining = remaining} (Err e) end = by e where
+  by : (e : OpenError) → IsReadToEnd remaining e
+  by (errors.Read e) = tt
+  by errors.Store = end
+  by (errors.Image fault at) = end
+  by (errors.Tree fault) = end

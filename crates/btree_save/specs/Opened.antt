@@ -1,6 +1,6 @@
 -- What `open` promises, beside `IsSavedAs` of `btree_image`: the bytes say that this is the tree.
 use Rattle.std.specs.Prelude.{◌≡◌, ◌≢◌, ◌-◌, ℕ, IfErr, IfSome, List, length, Option, Some, Result, Err}
-use Rattle.std.specs.Io.KnownBytes.{Appends}
+use Rattle.std.specs.Io.KnownBytes.{Appends, IsAtEnd}
 use Rattle.std.specs.IoError.{error_kind}
 use Rattle.std.specs.declared.io.ErrorKind.TheVariants.{Interrupted}
 use Rattle.std.specs.declared.cmp.Ordering.{Ordering}
@@ -75,6 +75,13 @@ module _ {K V : Type 0} (read_key : Read K) (read_value : Read V) where
     pub appended : Appends before after bytes
     pub saved : IsSavedAs read_key read_value s bytes
     pub only : AreOnlyBytesOf read_key read_value s bytes
+
+-- a reader is at its end, unless it failed
+abbrev pub IsReadToEnd : Option (List ℕ) → OpenError → Type 0
+IsReadToEnd remaining (errors.Read e) = Unit {0}
+IsReadToEnd remaining errors.Store = IsAtEnd remaining
+IsReadToEnd remaining (errors.Image fault at) = IsAtEnd remaining
+IsReadToEnd remaining (errors.Tree fault) = IsAtEnd remaining
 
 -- where there is no memory for the bytes, the writer got none
 abbrev pub IsUnwritten : (before after : Option (List ℕ)) → SaveError → Type 0

@@ -1,12 +1,13 @@
 //! Maps as bytes.
 ghost use Rattle.std.specs.Prelude.{◌≡◌, [], IfErr, IfOk, OnOk};
 ghost use Rattle.std.specs.FinMap as map;
+ghost use Rattle.std.specs.Io.KnownBytes.{IsAtEnd};
 ghost use Rattle.std.specs.Mem.{FitsInMemory};
 ghost use Rattle.btree_node.specs.contracts.node.Node.{the_row as node_row};
 ghost use Rattle.btree_laws.specs.TreeState.{TreeState};
 ghost use Rattle.btree_raw.specs.Limit.{IsBTreeWithinLimit};
 ghost use Rattle.btree_image.specs.Saved.{AreOnlyBytesOf, IsSavedAs};
-ghost use Rattle.btree_save.specs.Opened.{IsErrorFrom, IsOpenedFrom, IsRefusedBy, IsUnwritten, IsWrittenTo, Opens, OpensFrom};
+ghost use Rattle.btree_save.specs.Opened.{IsErrorFrom, IsOpenedFrom, IsReadToEnd, IsRefusedBy, IsUnwritten, IsWrittenTo, Opens, OpensFrom};
 
 use crate::error::{OpenError, SaveError, of_read};
 use btree_ext::BTreeExt;
@@ -80,7 +81,7 @@ pub fn map_of_bytes<K: Spelled + Ord, V: Spelled, C: Fill<Node<K, V>> + Drop>(
 
 /// Writes a map, always as the same bytes.
 ///
-/// It takes memory for the bytes. A writer that fails may have taken some of them.
+/// It takes memory for the bytes, and does not flush the writer. A writer that fails may have taken some of them.
 pub fn save<K: Spelled + Ord, V: Spelled, C: NodesMut<K, V>, A: Allocator, W: Write>(
     alloc: A,
     map: &BTreeMap<K, V, C>,
@@ -100,7 +101,7 @@ pub fn save<K: Spelled + Ord, V: Spelled, C: NodesMut<K, V>, A: Allocator, W: Wr
 /// Opens what a reader gives up to its end, as `map_of_bytes` does. It says that the store has no room only if that may be so for the number
 /// of a node that was read.
 ///
-/// It takes memory for the bytes too.
+/// It takes memory for the bytes too. Unless the reader fails, it reads to its end, whatever the bytes are.
 pub fn open<K: Spelled + Ord, V: Spelled, C: Fill<Node<K, V>> + Drop, A: Allocator, R: Read>(
     alloc: A,
     origin: C::Origin,
@@ -112,6 +113,8 @@ pub fn open<K: Spelled + Ord, V: Spelled, C: Fill<Node<K, V>> + Drop, A: Allocat
     ensures refused { IfErr result
         (IsErrorFrom K.read V.read K.cmp C.MayLack (R.remaining input.old)) }
     ensures opens { OpensFrom K.read V.read K.cmp C.MayLack (R.remaining input.old) result }
+    ensures end { OnOk result (IsAtEnd (R.remaining input.new)) }
+    ensures end_at_fault { IfErr result (IsReadToEnd (R.remaining input.new)) }
 {
     C::note_fits();
     let nodes = C::unused(origin);

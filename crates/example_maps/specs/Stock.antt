@@ -1,5 +1,5 @@
 -- Parts in stock, each with its count.
-use Rattle.std.specs.Prelude.{◌≡◌, ℕ, Bool, true, false, List, None, not, ◌==◌, ◌++◌, filter}
+use Rattle.std.specs.Prelude.{◌≡◌, ◌⊎◌, ℕ, Bool, true, false, List, None, not, ◌==◌, ◌++◌, filter}
 use Rattle.std.specs.Ordering.{nat_cmp}
 use Rattle.std.specs.declared.cmp.Ordering.{Ordering}
 use Rattle.std.specs.declared.ops.Bound.TheVariants.{Included}
@@ -22,7 +22,7 @@ pub record IsRenumbered (part number : ℕ) (old new : List (ℕ × ℕ)) : Type
   pub gone : found_value nat_cmp part new ≡ None
   pub others : (other : ℕ) → (other ≡ part → ⊥) → (other ≡ number → ⊥) → found_value nat_cmp other new ≡ found_value nat_cmp other old
 
--- so it is, or nothing has changed
+-- so it is; or the part is not there or has the number, and nothing has changed
 abbrev pub IsRenumberedIf : (part number : ℕ) → (old new : List (ℕ × ℕ)) → Bool → Type 0
 IsRenumberedIf part number old new true = IsRenumbered part number old new
-IsRenumberedIf part number old new false = new ≡ old
+IsRenumberedIf part number old new false = ((found_value nat_cmp part old ≡ None) ⊎ (part ≡ number)) × (new ≡ old)

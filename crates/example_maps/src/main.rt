@@ -36,7 +36,7 @@ use crate::copies::{is_readable, read_copy};
 use crate::lines::read_stock;
 use crate::listing::{count_parts, next_page};
 use crate::memory::{
-    Owner, give, hand_over, owner_of, region_of, release, reserve as reserve_memory,
+    Owner, give, hand_over, owner_of, region_of, release, reserve as reserve_memory, take_over,
 };
 use crate::minutes::{Minute, logged};
 use crate::orders::{cancel, take_best};
@@ -129,6 +129,17 @@ fn print_memory(rt: &impl Print, alloc: Global) -> io::Result<()> {
         rt.println(format_args!("{start} to {}: {:?}", span.end, span.value))?;
     }
     Ok(())
+}
+
+/// Prints how many regions a process takes over, of three that touch its addresses, and who owns one of them then.
+fn print_taken(rt: &impl Print, alloc: Global) -> io::Result<()> {
+    let mut memory: RangeMap<Owner> = RangeMap::new(alloc);
+    give(&mut memory, 0, 4, Owner::System)?;
+    give(&mut memory, 8, 12, Owner::Process(1))?;
+    give(&mut memory, 12, 14, Owner::Process(2))?;
+    let regions = take_over(&mut memory, 2, 13, Owner::Process(3))?;
+    rt.println(format_args!("taken over: {regions} regions"))?;
+    rt.println(format_args!("address 10: {:?}", owner_of(&memory, 10)))
 }
 
 /// Prints how often each of a few words occurs.
@@ -322,6 +333,7 @@ fn main(rt: HostRuntime) -> io::Result<()> {
     print_bookings(&rt, rt.alloc())?;
     print_blocks(&rt, rt.alloc())?;
     print_memory(&rt, rt.alloc())?;
+    print_taken(&rt, rt.alloc())?;
     print_counts(&rt, rt.alloc())?;
     print_texts(&rt, rt.alloc())?;
     print_log(&rt, rt.alloc())?;

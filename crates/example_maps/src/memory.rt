@@ -1,7 +1,7 @@
 //! The memory of a machine, and who owns which addresses: a map of ranges. Two regions of one owner that touch are one region.
-ghost use Rattle.std.specs.Prelude.{◌≡◌, IfErr, IfNone, IfOk, IfSome, None, OnErr, OnOk};
+ghost use Rattle.std.specs.Prelude.{◌≡◌, ◌≤◌, ◌<◌, IfErr, IfNone, IfOk, IfSome, None, OnErr, OnOk, length, min};
 ghost use Rattle.btree_slab.specs.RangeMapRanges.{IsAssigned, IsCleared, IsMaximalRun, range_now, value_at};
-ghost use Rattle.btree_slab.specs.RangeMapUpdates.{IsMapped};
+ghost use Rattle.btree_slab.specs.RangeMapUpdates.{IsMapped, parts_between};
 ghost use Rattle.example_maps.specs.Memory.{Reserves, handed};
 
 use btree_slab::range_map::{RangeMap, RangeRefused, Span};
@@ -73,9 +73,34 @@ pub fn hand_over<C: NodesMut<u64, Span<Owner>>>(
         (IsMapped (handed from to) memory.old.ranges start end memory.new.ranges) }
     ensures stopped { IfErr result (λ r.
         IsMapped (handed from to) memory.old.ranges start r.key memory.new.ranges) }
+    ensures inside { IfErr result (λ r.
+        (start ≤ r.key) × (r.key < r.value.end) × (r.value.end ≤ end)) }
 {
     let mut owner_then = |owner: &Owner| if *owner == from { to } else { *owner };
     memory.update(start, end, &mut owner_then)
+}
+
+/// Hands the addresses from `start` up to `end` that have an owner over to one. Returns how many regions they were in, at most `u32::MAX`.
+pub fn take_over<C: NodesMut<u64, Span<Owner>>>(
+    memory: &mut RangeMap<Owner, C>,
+    start: u64,
+    end: u64,
+    to: Owner,
+) -> Result<u32, RangeRefused<Span<Owner>>>
+    ensures taken { OnOk result
+        (IsMapped (λ owner. to) memory.old.ranges start end memory.new.ranges) }
+    ensures counted { IfOk result (λ count.
+        count ≡ min (length (parts_between start end memory.old.ranges)) u32.MAX) }
+    ensures stopped { IfErr result (λ r.
+        IsMapped (λ owner. to) memory.old.ranges start r.key memory.new.ranges) }
+{
+    let mut regions = 0u32;
+    let mut count_and_take = |_: &Owner| {
+        regions = regions.saturating_add(1);
+        to
+    };
+    memory.update(start, end, &mut count_and_take)?;
+    Ok(regions)
 }
 
 /// Returns the owner of an address, or `None` if it is free.

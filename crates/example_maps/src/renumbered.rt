@@ -9,7 +9,7 @@ use btree_slab::generic::BTreeMap;
 use btree_slab::generic::map::Refused;
 use btree_slab::store::NodesMut;
 
-/// Gives a part another number, in place of the part that has it. Returns whether the part is there, and has not that number yet.
+/// Gives a part another number, in place of the part that has it. Returns whether the part was there and had another number.
 pub fn renumber<C: NodesMut<u32, u64>>(
     stock: &mut BTreeMap<u32, u64, C>,
     part: u32,

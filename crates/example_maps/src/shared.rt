@@ -9,9 +9,9 @@ fn send<T: Send + Drop>(value: T) {
     drop(value);
 }
 
-/// A map, a set, a set of ranges and a map of ranges over the heap, and a map in a table, may be shared by threads.
+/// A map of strings, a set, a set of ranges and a map of ranges over the heap, and a map in a table, may be shared by threads.
 pub fn share_each(
-    map: &BTreeMap<u32, u64>,
+    map: &BTreeMap<String, u64>,
     set: &BTreeSet<u32>,
     ranges: &RangeSet,
     owners: &RangeMap<u32>,
@@ -26,7 +26,7 @@ pub fn share_each(
 
 /// Each of them may be sent to another thread.
 pub fn send_each(
-    map: BTreeMap<u32, u64>,
+    map: BTreeMap<String, u64>,
     set: BTreeSet<u32>,
     ranges: RangeSet,
     owners: RangeMap<u32>,

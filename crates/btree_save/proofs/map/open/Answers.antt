@@ -1,4 +1,4 @@
-use Rattle.btree_save.proofs.OpenedLemmas.{all-read, opened-from, opens-from, refused-from}
+use Rattle.btree_save.proofs.OpenedLemmas.{all-read, opened-from, opens-from, refused-from, to-end, to-end-at-fault}
 use Rattle.btree_save.proofs.map.open.Goals as goal
 
 pub note_fits-requires : goal.note_fits-requires
@@ -30,3 +30,9 @@ returns-in-Ok-clause-opens g c =
 
 pub returns-in-Ok-clause-uncounted : goal.returns-in-Ok-clause-uncounted
 returns-in-Ok-clause-uncounted g c = rw c.unused-nodes.ensures.refusals at c.map_in_store.ensures.uncounted
+
+pub returns-in-Ok-clause-end : goal.returns-in-Ok-clause-end
+returns-in-Ok-clause-end g c = to-end c.map_in_store.result c.in-Ok.ensures.end
+
+pub returns-in-Ok-clause-end_at_fault : goal.returns-in-Ok-clause-end_at_fault
+returns-in-Ok-clause-end_at_fault g c = to-end-at-fault c.map_in_store.result c.in-Ok.ensures.end
