@@ -1,6 +1,6 @@
 //! Maps over a fixed table of nodes.
 use crate::asserts::{assert_same, assert_same_in, assert_true};
-use crate::samples::{check_pairs, first_keys};
+use crate::samples::first_keys;
 use btree_ext::BTreeExt;
 use btree_item::Cause;
 use btree_map::BTreeMap;
@@ -39,6 +39,19 @@ fn a_table_takes_what_its_nodes_hold(rt: HostRuntime) {
     check_table::<Table<1>>(&rt, (), 8, 1);
     check_table::<Table<2>>(&rt, (), 8, 1);
     check_table::<Table<11>>(&rt, (), 43, 9);
+}
+
+// Checks that a map has these pairs, in this order.
+fn check_pairs<C: NodesMut<u64, u64>>(
+    rt: &impl Abort,
+    map: &BTreeMap<u64, u64, C>,
+    expected: &[(u64, u64)],
+) {
+    let mut rest = expected.iter();
+    for (key, value) in map {
+        assert_same(rt, rest.next().copied(), Some((*key, *value)));
+    }
+    assert_same(rt, map.len(), expected.len());
 }
 
 // Appends three pairs to a map of eight keys on one node, which has no place for another. The first one replaces a value, and the second

@@ -27,8 +27,6 @@ mod lending;
 #[cfg(test)]
 mod merges;
 #[cfg(test)]
-mod names;
-#[cfg(test)]
 mod once;
 #[cfg(test)]
 mod own;

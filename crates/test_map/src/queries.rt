@@ -283,28 +283,6 @@ fn count_between<K: Ord, Q: Query<K>, R: Query<K>, C: NodesMut<K, u64>>(
     count
 }
 
-// Ranges between queries, also in the other order, and of a map without pairs.
-fn ranges<C: NodesMut<u64, u64> + Drop>(rt: &impl Abort, origin: C::Origin, other: C::Origin) {
-    let empty: BTreeMap<u64, u64, C> = BTreeMap::new(other);
-    assert_same(rt, count_between(&empty, &0, &9), 0);
-    let map = first_keys::<C>(rt, origin, 44);
-    for start in [0u64, 5, 19, 43, 50] {
-        for end in [0u64, 4, 5, 20, 44, 60] {
-            let (low, high) = (start.min(44), end.min(44));
-            let expected = high.wrapping_sub(low.min(high)) as usize;
-            assert_same_in(
-                rt,
-                (start, end),
-                count_between(&map, &start, &end),
-                expected,
-            );
-            let more = end.wrapping_add(1).min(44).max(low).wrapping_sub(low) as usize;
-            let given = count_between(&map, &Before(&start), &After(&end));
-            assert_same_in(rt, (start, end), given, more);
-        }
-    }
-}
-
 // The first and the last key of a range.
 fn ends<C: NodesMut<u64, u64>>(range: Range<'_, u64, u64, C>) -> (Option<u64>, Option<u64>) {
     let mut range = range;
@@ -335,11 +313,6 @@ fn kinds<C: NodesMut<u64, u64> + Drop>(rt: &impl Abort, origin: C::Origin) {
 #[test]
 fn kinds_of_ranges_are_found(rt: HostRuntime) {
     kinds::<SlabStore<Node<u64, u64>>>(&rt, rt.alloc());
-}
-
-#[test]
-fn pairs_between_queries_are_found(rt: HostRuntime) {
-    ranges::<SlabStore<Node<u64, u64>>>(&rt, rt.alloc(), rt.alloc());
 }
 
 #[test]

@@ -60,7 +60,11 @@ pub(crate) fn check_ranges<C: NodesMut<u64, Span<u64>>>(
     expected: &[(u64, u64, u64)],
 ) {
     check_listed(rt, map.iter(), expected);
-    assert_same(rt, map.len(), expected.len());
+    assert_same(
+        rt,
+        (map.len(), map.iter().len()),
+        (expected.len(), expected.len()),
+    );
     assert_same(rt, map.is_empty(), expected.is_empty());
     let last = match expected.last().copied() {
         Some((start, end, value)) => Some(range(start, end, value)),

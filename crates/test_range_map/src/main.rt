@@ -18,20 +18,10 @@ mod maps;
 #[cfg(test)]
 mod owned;
 #[cfg(test)]
-mod queries;
-#[cfg(test)]
-mod refusals;
-#[cfg(test)]
-mod rows;
-#[cfg(test)]
 mod table;
 mod texts;
 #[cfg(test)]
 mod two_maps;
-#[cfg(test)]
-mod updates;
-#[cfg(test)]
-mod walk;
 
 use crate::texts::Text;
 use btree_node::{Node, NodesMut};
@@ -62,7 +52,7 @@ fn print<C: NodesMut<u64, Span<Text>>>(
     rt: &impl Print,
     map: &RangeMap<Text, C>,
 ) -> Result<(), io::Error> {
-    for (start, span) in map.iter() {
+    for (start, span) in map {
         rt.println(format_args!("{start}..{}: {}", span.end, span.value.letters()))?;
     }
     Ok(())

@@ -68,7 +68,7 @@ pub(crate) fn fill<C: ClearNodes<u64, u64> + Drop>(
     }
 }
 
-// The ranges of `eight_ranges`.
+// The ranges from 10i up to 10i + 5, for i from 0 to 7.
 pub(crate) const EIGHT: [(u64, u64); 8] = [
     (0, 5),
     (10, 15),
@@ -79,15 +79,3 @@ pub(crate) const EIGHT: [(u64, u64); 8] = [
     (60, 65),
     (70, 75),
 ];
-
-// Returns the ranges from 10i up to 10i + 5, for i from 0 to 7.
-pub(crate) fn eight_ranges<C: NodesMut<u64, u64> + Drop>(
-    rt: &impl Abort,
-    origin: C::Origin,
-) -> RangeSet<C> {
-    let mut set: RangeSet<C> = RangeSet::new(origin);
-    for i in 0..8 {
-        assert_true(rt, set.insert(10 * i, 10 * i + 5).is_ok());
-    }
-    set
-}

@@ -14,10 +14,6 @@ mod maps;
 #[cfg(test)]
 mod owned;
 #[cfg(test)]
-mod queries;
-#[cfg(test)]
-mod ranges;
-#[cfg(test)]
 mod table;
 #[cfg(test)]
 mod two_sets;

@@ -3,8 +3,7 @@ use crate::asserts::{assert_same, assert_true};
 use btree_node::{Node, NodesMut};
 use btree_range_set::RangeSet;
 use btree_store::SlabStore;
-use std::alloc::{AllocError, Global};
-use std::fmt::Debug;
+use std::alloc::Global;
 use std::process::Abort;
 use std::test::Fail;
 
@@ -74,31 +73,21 @@ fn takes_ranges(rt: HostRuntime) {
     );
 }
 
-// Returns what a value is in a text, in one line and in several.
-fn texts<T: Debug>(alloc: Global, value: &T) -> Result<(String, String), AllocError> {
-    let mut text = String::new(alloc);
-    let mut lines = String::new(alloc);
-    write!(text, "{value:?}")?;
-    write!(lines, "{value:#?}")?;
-    Ok((text, lines))
-}
-
-// Shows a set without ranges, and one of three.
+// Shows a set without ranges, and one of three, in several lines.
 fn show<C: NodesMut<u64, u64> + Drop>(
     rt: &impl Abort,
     alloc: Global,
     mut set: RangeSet<C>,
 ) -> Result<(), Fail> {
-    let (text, lines) = texts(alloc, &set)?;
-    assert_same(rt, (text.as_str(), lines.as_str()), ("{}", "{}"));
+    let none = format!(in alloc; "{set:#?}")?;
+    assert_same(rt, none.as_str(), "{}");
     assert_true(rt, set.insert(5, 9).is_ok());
     assert_true(rt, set.insert(1, 3).is_ok());
     assert_true(rt, set.insert(20, 30).is_ok());
-    let (text, lines) = texts(alloc, &set)?;
-    assert_same(rt, text.as_str(), "{1..3, 5..9, 20..30}");
+    let three = format!(in alloc; "{set:#?}")?;
     assert_same(
         rt,
-        lines.as_str(),
+        three.as_str(),
         "{\n    1..3,\n    5..9,\n    20..30,\n}",
     );
     Ok(())
