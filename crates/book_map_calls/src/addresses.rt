@@ -1,10 +1,10 @@
 //! Calls by address that change nothing.
 use book_text::{Reply, node, number, offset, put_address, put_node, word};
-use btree_slab::generic::BTreeMap;
-use btree_slab::generic::map::BTreeExt;
-use btree_slab::generic::node::Address;
-use btree_slab::store::NodesMut;
-use btree_slab::utils::Steps;
+use btree_ext::BTreeExt;
+use btree_item::Address;
+use btree_map::BTreeMap;
+use btree_node::NodesMut;
+use btree_steps::Steps;
 use std::alloc::AllocError;
 
 type Map<C> = BTreeMap<u64, u64, C>;

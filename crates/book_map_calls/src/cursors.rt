@@ -1,9 +1,9 @@
 //! Cursors that insert and remove pairs, drains, and what keeps pairs.
 use crate::menu::{Action, Pick, Raise, picks, raised, read_pick, read_raise, read_step, write};
 use book_text::{Reply, low, number, put_address, word};
-use btree_slab::generic::BTreeMap;
-use btree_slab::generic::map::{BTreeExt, EntriesMut};
-use btree_slab::store::NodesMut;
+use btree_ext::BTreeExt;
+use btree_map::{BTreeMap, EntriesMut};
+use btree_node::NodesMut;
 use std::alloc::AllocError;
 use std::ops::Bound;
 

@@ -2,10 +2,10 @@
 use crate::addresses::{map_address, map_node};
 use crate::menu::{Action, given, read_action, write};
 use book_text::{Reply, number, pair, put_address, word};
-use btree_slab::generic::BTreeMap;
-use btree_slab::generic::map::{BTreeExt, BTreeExtMut, UpdateRefused};
-use btree_slab::generic::node::{Address, Item};
-use btree_slab::store::NodesMut;
+use btree_ext::{BTreeExt, BTreeExtMut};
+use btree_item::{Address, Item, UpdateRefused};
+use btree_map::BTreeMap;
+use btree_node::NodesMut;
 use std::alloc::AllocError;
 
 type Map<C> = BTreeMap<u64, u64, C>;

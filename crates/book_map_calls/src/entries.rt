@@ -1,9 +1,9 @@
 //! Entries of maps.
 use crate::menu::{Action, read_action, read_step, write};
 use book_text::{Reply, number, pair, put_address, word};
-use btree_slab::generic::BTreeMap;
-use btree_slab::generic::map::{BTreeExt, Entry, OccupiedEntry};
-use btree_slab::store::NodesMut;
+use btree_ext::BTreeExt;
+use btree_map::{BTreeMap, Entry, OccupiedEntry};
+use btree_node::NodesMut;
 use std::alloc::AllocError;
 use std::mem;
 

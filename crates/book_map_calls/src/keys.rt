@@ -1,9 +1,10 @@
 //! Calls by key, and what a map is as a whole.
 use crate::menu::{Action, given, read_action, write};
 use book_text::{Reply, draw, number, pair, shape, word};
-use btree_slab::generic::BTreeMap;
-use btree_slab::generic::map::{BTreeExt, UpdateRefused};
-use btree_slab::store::{ClearNodes, CloneNodes, Nodes, NodesMut};
+use btree_ext::BTreeExt;
+use btree_item::UpdateRefused;
+use btree_map::BTreeMap;
+use btree_node::{ClearNodes, CloneNodes, Nodes, NodesMut};
 use std::alloc::AllocError;
 
 type Map<C> = BTreeMap<u64, u64, C>;

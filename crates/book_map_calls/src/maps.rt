@@ -8,8 +8,8 @@ use crate::queries::serve_queries;
 use crate::several::serve_several;
 use crate::walks::serve_walks;
 use book_text::{Reply, word};
-use btree_slab::generic::BTreeMap;
-use btree_slab::store::{ClearNodes, CloneNodes, NodesMut};
+use btree_map::BTreeMap;
+use btree_node::{ClearNodes, CloneNodes, NodesMut};
 use std::alloc::{AllocError, Global};
 
 /// Does the call of a map, or of it and another one, that words name, and adds the reply. Returns whether the words are a call. Maps over stores

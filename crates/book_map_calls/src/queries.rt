@@ -4,10 +4,10 @@ use crate::keys::copied;
 use crate::menu::{Action, read_action, write};
 use crate::walks::walk;
 use book_text::{Reply, number, word};
-use btree_slab::generic::BTreeMap;
-use btree_slab::generic::map::BTreeExt;
-use btree_slab::query::{After, Before, Query};
-use btree_slab::store::NodesMut;
+use btree_ext::BTreeExt;
+use btree_item::{After, Before, Query};
+use btree_map::BTreeMap;
+use btree_node::NodesMut;
 use std::alloc::AllocError;
 
 type Map<C> = BTreeMap<u64, u64, C>;

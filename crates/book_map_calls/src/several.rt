@@ -1,9 +1,9 @@
 //! Calls of two maps, and of a map and a list of pairs.
 use crate::lists::{pairs, put_left};
 use book_text::{Reply, draw, number};
-use btree_slab::generic::BTreeMap;
-use btree_slab::generic::map::BTreeExt;
-use btree_slab::store::{CloneNodes, NodesMut};
+use btree_ext::BTreeExt;
+use btree_map::BTreeMap;
+use btree_node::{CloneNodes, NodesMut};
 use std::alloc::{AllocError, Global};
 use std::hash::{DefaultHasher, Hash, Hasher};
 

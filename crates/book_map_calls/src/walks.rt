@@ -4,9 +4,9 @@ ghost use Rattle.std.specs.Iterator.{IsFinite};
 
 use crate::menu::{Action, read_action, write};
 use book_text::{Reply, high, low, word};
-use btree_slab::generic::BTreeMap;
-use btree_slab::generic::map::{IntoIter, is_valid_range};
-use btree_slab::store::{CloneNodes, NodesMut};
+use btree_map::{BTreeMap, IntoIter};
+use btree_node::{CloneNodes, NodesMut};
+use btree_walk::is_valid_range;
 use std::alloc::AllocError;
 use std::iter::{DoubleEndedIterator, ExactSizeIterator};
 use std::ops::Bound;

@@ -1,10 +1,10 @@
 //! Calls that are done at each of many pairs, with what has to hold after each.
 use book_map_calls::{Action, given, pairs};
 use book_text::{Reply, nth, number, word};
-use btree_slab::generic::BTreeMap;
-use btree_slab::generic::map::{BTreeExt, BTreeExtMut, EntriesMut};
-use btree_slab::generic::node::Item;
-use btree_slab::store::{ClearNodes, NodesMut};
+use btree_ext::{BTreeExt, BTreeExtMut};
+use btree_item::Item;
+use btree_map::{BTreeMap, EntriesMut};
+use btree_node::{ClearNodes, NodesMut};
 use std::alloc::{AllocError, Global};
 use std::collections;
 

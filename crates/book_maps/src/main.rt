@@ -11,8 +11,8 @@ mod sets;
 
 use crate::desk::serve_stores;
 use book_text::Ending;
-use btree_slab::generic::Node;
-use btree_slab::store::SlabStore;
+use btree_node::Node;
+use btree_store::SlabStore;
 use std::alloc::Global;
 use std::env::FillError;
 use std::process::ExitCode;

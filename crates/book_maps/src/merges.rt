@@ -3,8 +3,8 @@ ghost use Rattle.std.specs.Iterator.{IsFinite};
 
 use book_map_calls::{numbers, put_left};
 use book_text::{Reply, number};
-use btree_slab::generic::BTreeSet;
-use btree_slab::store::{CloneNodes, NodesMut};
+use btree_node::{CloneNodes, NodesMut};
+use btree_set::BTreeSet;
 use std::alloc::{AllocError, Global};
 use std::hash::{DefaultHasher, Hash, Hasher};
 

@@ -1,9 +1,9 @@
 //! Calls of a set by an element or by a place beside one.
 use book_map_calls::{Spot, read_spot, walk};
 use book_text::{Reply, word};
-use btree_slab::generic::BTreeSet;
-use btree_slab::query::{After, Before, Query};
-use btree_slab::store::NodesMut;
+use btree_item::{After, Before, Query};
+use btree_node::NodesMut;
+use btree_set::BTreeSet;
 use std::alloc::AllocError;
 
 type Set<C> = BTreeSet<u64, C>;

@@ -2,9 +2,8 @@
 use crate::set_queries::serve_queries;
 use book_map_calls::{Pick, picks, put_all, read_pick, walk, walk_known};
 use book_text::{Reply, high, low, number, word};
-use btree_slab::generic::BTreeSet;
-use btree_slab::generic::set::DrainFilter;
-use btree_slab::store::{ClearNodes, CloneNodes, NodesMut};
+use btree_node::{ClearNodes, CloneNodes, NodesMut};
+use btree_set::{BTreeSet, DrainFilter};
 use std::alloc::AllocError;
 
 type Set<C> = BTreeSet<u64, C>;

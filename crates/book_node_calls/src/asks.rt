@@ -8,8 +8,8 @@ ghost use Rattle.btree_view.specs.View.{items_of};
 use crate::names::glue_offset;
 use crate::text::{PlainNode, put_item, put_node_text};
 use book_text::{Reply, number, word};
-use btree_slab::generic::Node;
-use btree_slab::generic::node::{Balance, Offset};
+use btree_item::Offset;
+use btree_node::{Balance, Node};
 use std::alloc::AllocError;
 
 /// Returns whether a node passes its own checks as a root, so that its keys ascend.

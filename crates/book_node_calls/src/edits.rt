@@ -7,8 +7,8 @@ ghost use Rattle.btree_view.specs.View.{most_of, size_of};
 use crate::asks::{is_valid, put_child, put_number, put_offset};
 use crate::text::{PlainNode, put_item};
 use book_text::Reply;
-use btree_slab::generic::Node;
-use btree_slab::generic::node::{Item, Offset};
+use btree_item::{Item, Offset};
+use btree_node::Node;
 use std::alloc::AllocError;
 use std::mem;
 

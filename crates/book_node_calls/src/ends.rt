@@ -7,8 +7,8 @@ use crate::asks::{put_balance, put_offset};
 use crate::edits::objection;
 use crate::text::{PlainNode, empty_leaf, put_item};
 use book_text::Reply;
-use btree_slab::generic::Node;
-use btree_slab::generic::node::Item;
+use btree_item::Item;
+use btree_node::Node;
 use std::alloc::AllocError;
 use std::mem;
 

@@ -1,8 +1,8 @@
 //! The nodes of a raw tree by words: paths from the root, `M` for the marked one, `unused` for one that is not there, and numbers.
 use book_text::{Reply, node, number, offset, put_node};
-use btree_slab::generic::map::RawBTree;
-use btree_slab::generic::node::{Address, Offset};
-use btree_slab::store::NodesMut;
+use btree_item::{Address, Offset};
+use btree_node::NodesMut;
+use btree_raw::RawBTree;
 use std::alloc::AllocError;
 
 /// A raw tree.

@@ -1,10 +1,9 @@
 //! A node as a text: `leaf under 5 0=0 1=10`, or `internal 100 3=30 101 7=70 102`.
 use crate::names::{Raw, named, put_name};
 use book_text::{Reply, pair, word};
-use btree_slab::generic::Node;
-use btree_slab::generic::node::internal::Internal;
-use btree_slab::generic::node::{Item, LeafNode, Offset};
-use btree_slab::store::NodesMut;
+use btree_item::{Item, Offset};
+use btree_node::internal::Internal;
+use btree_node::{LeafNode, Node, NodesMut};
 use std::alloc::AllocError;
 
 /// A node in no tree, or one of a tree.

@@ -5,11 +5,10 @@ ghost use Rattle.btree_view.specs.View.{children_of};
 
 use book_node_calls::Raw;
 use book_text::{Reply, number};
-use btree_slab::generic::Node;
-use btree_slab::generic::map::BTreeMap;
-use btree_slab::generic::node::internal::Internal;
-use btree_slab::generic::node::{Item, LeafNode};
-use btree_slab::store::{ClearNodes, NodesMut};
+use btree_item::Item;
+use btree_map::BTreeMap;
+use btree_node::internal::Internal;
+use btree_node::{ClearNodes, LeafNode, Node, NodesMut};
 use std::alloc::{AllocError, Global};
 
 // The most levels of a text.

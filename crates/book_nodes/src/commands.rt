@@ -1,7 +1,7 @@
 //! Commands and steps of sessions as words, their replies, and lines of text with escapes.
 use book_text::{Reply, number, pair, word};
-use btree_slab::generic::map::Cause;
-use btree_slab::script::{self, Command, CursorStep, Stop};
+use btree_item::Cause;
+use btree_session::{Command, CursorStep, Stop};
 use std::alloc::{AllocError, Global};
 use std::str;
 
@@ -58,31 +58,34 @@ pub(crate) fn read_steps(alloc: Global, text: &str) -> Result<Option<Vec<CursorS
     Ok(Some(steps))
 }
 
-fn put_reply(reply: &mut Reply, said: script::Reply) -> Result<(), AllocError> {
+fn put_reply(reply: &mut Reply, said: btree_session::Reply) -> Result<(), AllocError> {
     match said {
-        script::Reply::Nothing => reply.word("none"),
-        script::Reply::Value(value) => {
+        btree_session::Reply::Nothing => reply.word("none"),
+        btree_session::Reply::Value(value) => {
             reply.word("some")?;
             reply.number(value)
         }
-        script::Reply::Pair(key, value) => {
+        btree_session::Reply::Pair(key, value) => {
             reply.word("pair")?;
             reply.pair(key, value)
         }
-        script::Reply::Done => reply.word("ok"),
-        script::Reply::Found(value) => {
+        btree_session::Reply::Done => reply.word("ok"),
+        btree_session::Reply::Found(value) => {
             reply.word("found")?;
             reply.number(value)
         }
-        script::Reply::Gap => reply.word("gap"),
-        script::Reply::NoPlace => reply.word("no place"),
-        script::Reply::Unfit => reply.word("unfit"),
-        script::Reply::Refused(cause) => reply.refused(cause),
+        btree_session::Reply::Gap => reply.word("gap"),
+        btree_session::Reply::NoPlace => reply.word("no place"),
+        btree_session::Reply::Unfit => reply.word("unfit"),
+        btree_session::Reply::Refused(cause) => reply.refused(cause),
     }
 }
 
 /// Adds the replies of a session, with a comma between them.
-pub(crate) fn put_replies(reply: &mut Reply, replies: &[script::Reply]) -> Result<(), AllocError> {
+pub(crate) fn put_replies(
+    reply: &mut Reply,
+    replies: &[btree_session::Reply],
+) -> Result<(), AllocError> {
     let mut is_first = true;
     for said in replies {
         if !is_first {

@@ -7,11 +7,12 @@ use book_node_calls::{
     PlainNode, Raw, empty_leaf, put_node_text, read_item, read_node, serve_node,
 };
 use book_text::{Desk, Desks, Ending, Reply, serve, word};
-use btree_slab::generic::BTreeMap;
-use btree_slab::generic::map::{BTreeExt, RawBTree};
-use btree_slab::generic::node::Item;
-use btree_slab::script::Session;
-use btree_slab::store::{ClearNodes, NodesMut};
+use btree_ext::BTreeExt;
+use btree_item::Item;
+use btree_map::BTreeMap;
+use btree_node::{ClearNodes, NodesMut};
+use btree_raw::RawBTree;
+use btree_session::Session;
 use std::alloc::{AllocError, Global};
 use std::{io, mem};
 use test_support::Refusing;

@@ -2,8 +2,8 @@
 use crate::build::build;
 use book_node_calls::{Raw, named, put_named};
 use book_text::{Reply, place, shape};
-use btree_slab::generic::node::{Address, Offset};
-use btree_slab::store::{ClearNodes, NodesMut};
+use btree_item::{Address, Offset};
+use btree_node::{ClearNodes, NodesMut};
 use std::alloc::{AllocError, Global};
 
 // The most levels that a walk goes down.

@@ -1,10 +1,8 @@
 //! Insertion into raw trees at exactly an address.
 use book_node_calls::{Raw, objection, put_named};
 use book_text::Reply;
-use btree_slab::generic::Node;
-use btree_slab::generic::map::Refused;
-use btree_slab::generic::node::{Address, Item, Offset};
-use btree_slab::store::NodesMut;
+use btree_item::{Address, Item, Offset, Refused};
+use btree_node::{Node, NodesMut};
 use std::alloc::AllocError;
 
 type Inserted = Result<Address, Refused<u64, u64>>;

@@ -13,8 +13,8 @@ mod session_calls;
 
 use crate::desk::serve_stores;
 use book_text::Ending;
-use btree_slab::generic::Node;
-use btree_slab::store::SlabStore;
+use btree_node::Node;
+use btree_store::SlabStore;
 use std::alloc::Global;
 use std::env::FillError;
 use std::process::ExitCode;

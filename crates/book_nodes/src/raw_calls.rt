@@ -10,8 +10,8 @@ use book_node_calls::{
     Raw, named, named_address, named_or_none, put_item, read_item, read_node, read_separators,
 };
 use book_text::{Reply, draw, number, put_node, shape, word};
-use btree_slab::generic::node::Address;
-use btree_slab::store::{ClearNodes, NodesMut};
+use btree_item::Address;
+use btree_node::{ClearNodes, NodesMut};
 use std::alloc::{AllocError, Global};
 
 // Adds the path of the marked node, or `none` if there is no such node.

@@ -6,9 +6,8 @@ ghost use Rattle.btree_raw.specs.Raw.{AreUsed};
 
 use book_node_calls::{PlainNode, Raw, put_item, put_name, put_named, put_node_of};
 use book_text::{Reply, place};
-use btree_slab::generic::map::Cause;
-use btree_slab::generic::node::Address;
-use btree_slab::store::NodesMut;
+use btree_item::{Address, Cause};
+use btree_node::NodesMut;
 use std::alloc::{AllocError, Global};
 
 /// Adds a node by its text.

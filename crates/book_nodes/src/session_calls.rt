@@ -1,10 +1,10 @@
 //! The calls of a session, and of a map that a cursor edits.
 use crate::commands::{put_replies, put_written, read_commands, read_lines, read_steps};
 use book_text::{Reply, shape, word};
-use btree_slab::generic::BTreeMap;
-use btree_slab::generic::map::BTreeExt;
-use btree_slab::script::{self, Session, drive, run, run_cursor};
-use btree_slab::store::{ClearNodes, NodesMut};
+use btree_ext::BTreeExt;
+use btree_map::BTreeMap;
+use btree_node::{ClearNodes, NodesMut};
+use btree_session::{Session, drive, run, run_cursor};
 use std::alloc::{AllocError, Global};
 
 /// A map.
@@ -50,7 +50,7 @@ fn run_commands<C: ClearNodes<u64, u64>>(
     let Some(commands) = read_commands(alloc, text)? else {
         return Ok(false);
     };
-    let mut replies: Vec<script::Reply> = Vec::new(alloc);
+    let mut replies: Vec<btree_session::Reply> = Vec::new(alloc);
     run(session, commands.as_slice(), &mut replies)?;
     put_replies(reply, replies.as_slice())?;
     Ok(true)
@@ -96,7 +96,7 @@ fn take_steps<C: NodesMut<u64, u64>>(
     let Some(steps) = read_steps(alloc, text)? else {
         return Ok(false);
     };
-    let mut replies: Vec<script::Reply> = Vec::new(alloc);
+    let mut replies: Vec<btree_session::Reply> = Vec::new(alloc);
     run_cursor(map, steps.as_slice(), &mut replies)?;
     put_replies(reply, replies.as_slice())?;
     Ok(true)

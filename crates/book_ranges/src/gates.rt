@@ -1,10 +1,11 @@
 //! A set and a map of ranges over stores that refuse one node.
 use crate::things::Thing;
 use book_text::{Desk, Reply, number, word};
-use btree_slab::generic::Node;
-use btree_slab::range_map::{RangeMap, Span};
-use btree_slab::range_set::RangeSet;
-use btree_slab::store::{Gate, SlabMut, SlabStore};
+use btree_more_stores::Gate;
+use btree_node::Node;
+use btree_range_map::{RangeMap, Span};
+use btree_range_set::RangeSet;
+use btree_store::{SlabMut, SlabStore};
 use std::alloc::{AllocError, Global};
 
 type SetStore = SlabStore<Node<u64, u64>>;

@@ -1,9 +1,9 @@
 //! Calls of a map of ranges.
 use crate::ranges::{Range, put_range, put_ranges, walk_ranges};
 use book_text::{Reply, number, word};
-use btree_slab::generic::map::Cause;
-use btree_slab::range_map::{RangeCause, RangeMap, RangeRefused, Span};
-use btree_slab::store::{ClearNodes, NodesMut};
+use btree_item::Cause;
+use btree_node::{ClearNodes, NodesMut};
+use btree_range_map::{RangeCause, RangeMap, RangeRefused, Span};
 use std::alloc::AllocError;
 
 type Map<C> = RangeMap<u64, C>;

@@ -2,8 +2,8 @@
 ghost use Rattle.std.specs.Iterator.{IsFinite};
 
 use book_text::Reply;
-use btree_slab::generic::map::Refused;
-use btree_slab::range_map::Span;
+use btree_item::Refused;
+use btree_range_map::Span;
 use std::alloc::AllocError;
 use std::iter::{DoubleEndedIterator, Iterator};
 

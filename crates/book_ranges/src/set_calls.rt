@@ -1,8 +1,8 @@
 //! Calls of a set of ranges.
 use crate::ranges::{put_outcome, put_range, put_ranges, walk_ranges};
 use book_text::{Reply, number, word};
-use btree_slab::range_set::RangeSet;
-use btree_slab::store::{ClearNodes, NodesMut};
+use btree_node::{ClearNodes, NodesMut};
+use btree_range_set::RangeSet;
 use std::alloc::AllocError;
 
 fn whole<C: ClearNodes<u64, u64>>(

@@ -3,9 +3,9 @@ use crate::map_calls::serve_map;
 use crate::ranges::put_ranges;
 use crate::set_calls::serve_set;
 use book_text::{Reply, number, word};
-use btree_slab::range_map::{RangeMap, Span};
-use btree_slab::range_set::RangeSet;
-use btree_slab::store::{ClearNodes, NodesMut};
+use btree_node::{ClearNodes, NodesMut};
+use btree_range_map::{RangeMap, Span};
+use btree_range_set::RangeSet;
 use std::alloc::AllocError;
 
 /// A set or a map of ranges.

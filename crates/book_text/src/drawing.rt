@@ -1,10 +1,9 @@
 //! A whole tree as a text.
 use crate::Reply;
 use crate::places::{LEVELS, place, put_node};
-use btree_slab::generic::Node;
-use btree_slab::generic::map::RawBTree;
-use btree_slab::generic::node::{LeafNode, Offset};
-use btree_slab::store::NodesMut;
+use btree_item::Offset;
+use btree_node::{LeafNode, Node, NodesMut};
+use btree_raw::RawBTree;
 use std::alloc::AllocError;
 
 fn leaf_shape(reply: &mut Reply, leaf: &LeafNode<u64, u64>) -> Result<(), AllocError> {

@@ -1,10 +1,9 @@
 //! Addresses as paths, read and written, and the places of addresses.
 use crate::Reply;
 use crate::words::number;
-use btree_slab::generic::Node;
-use btree_slab::generic::map::RawBTree;
-use btree_slab::generic::node::{Address, Offset};
-use btree_slab::store::NodesMut;
+use btree_item::{Address, Offset};
+use btree_node::{Node, NodesMut};
+use btree_raw::RawBTree;
 use std::alloc::AllocError;
 
 /// The most levels that a walk goes up or down.

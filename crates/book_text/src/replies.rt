@@ -1,6 +1,6 @@
 //! Replies of each kind.
 use crate::Reply;
-use btree_slab::generic::map::{Cause, Fault};
+use btree_item::{Cause, Fault};
 use std::alloc::AllocError;
 use std::cmp::Ordering;
 
