@@ -66,15 +66,13 @@ all-read None start end bytes none is h = tt
 all-read (Some xs) start end bytes none is h = is ∙ h ∙ ap (λ (t : List ℕ). t ++ xs) none
 
 -- what it gave is opened or not: it is at its end
-pub to-end : {T : Type 0} {remaining : Option (List ℕ)} (r : Result T OpenError) → IsAtEnd remaining → OnOk r (IsAtEnd remaining)
-to-end (Ok s) end = end
-to-end (Err e) end = tt
+pub to-end : {T : Type 0} (remaining : Option (List ℕ)) (r : Result T OpenError) → IsAtEnd remaining → OnOk r (IsAtEnd remaining)
+to-end remaining (Ok s) end = end
+to-end remaining (Err e) end = tt
 
-pub to-end-at-fault : {T : Type 0} {remaining : Option (List ℕ)} (r : Result T OpenError) → IsAtEnd remaining → IfErr r (IsReadToEnd remaining)
-to-end-at-fault (Ok s) end = tt
-to-end-at-fault {remaining = remaining} (Err e) end = by e where
-  by : (e : OpenError) → IsReadToEnd remaining e
-  by (errors.Read e) = tt
-  by errors.Store = end
-  by (errors.Image fault at) = end
-  by (errors.Tree fault) = end
+pub to-end-at-fault : {T : Type 0} (remaining : Option (List ℕ)) (r : Result T OpenError) → IsAtEnd remaining → IfErr r (IsReadToEnd remaining)
+to-end-at-fault remaining (Ok s) end = tt
+to-end-at-fault remaining (Err (errors.Read e)) end = tt
+to-end-at-fault remaining (Err errors.Store) end = end
+to-end-at-fault remaining (Err (errors.Image fault at)) end = end
+to-end-at-fault remaining (Err (errors.Tree fault)) end = end

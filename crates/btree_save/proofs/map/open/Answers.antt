@@ -32,7 +32,7 @@ pub returns-in-Ok-clause-uncounted : goal.returns-in-Ok-clause-uncounted
 returns-in-Ok-clause-uncounted g c = rw c.unused-nodes.ensures.refusals at c.map_in_store.ensures.uncounted
 
 pub returns-in-Ok-clause-end : goal.returns-in-Ok-clause-end
-returns-in-Ok-clause-end g c = to-end c.map_in_store.result c.in-Ok.ensures.end
+returns-in-Ok-clause-end g c = to-end (g.R.Read.remaining c.read_to_end.new.self) c.map_in_store.result c.in-Ok.ensures.end
 
 pub returns-in-Ok-clause-end_at_fault : goal.returns-in-Ok-clause-end_at_fault
-returns-in-Ok-clause-end_at_fault g c = to-end-at-fault c.map_in_store.result c.in-Ok.ensures.end
+returns-in-Ok-clause-end_at_fault g c = to-end-at-fault (g.R.Read.remaining c.read_to_end.new.self) c.map_in_store.result c.in-Ok.ensures.end
