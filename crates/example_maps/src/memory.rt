@@ -99,8 +99,10 @@ pub fn take_over<C: NodesMut<u64, Span<Owner>>>(
         regions = regions.saturating_add(1);
         to
     };
-    memory.update(start, end, &mut count_and_take)?;
-    Ok(regions)
+    match memory.update(start, end, &mut count_and_take) {
+        Ok(()) => Ok(regions),
+        Err(refused) => Err(refused),
+    }
 }
 
 /// Returns the owner of an address, or `None` if it is free.
