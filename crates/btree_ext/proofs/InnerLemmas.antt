@@ -57,9 +57,9 @@ module _ {A : Type 0} (node_at : NodeMap A) (levels root : ℕ) (xs : List A) (p
     ]
   ]
 
-module _ {K V : Type 0} (cmp : K → K → Ordering) (laws : IsTotalOrder cmp) (old : TreeState K V) (tree : IsBTree cmp old)
-    (small : old.len < 2 ^ 64) (a : Address) (left : ℕ) (inner : IsInnerAt old a left) (taken : TreeState K V) (y : K × V)
-    (leaf_id : ℕ) (takes : TakesLast old taken left y leaf_id) where
+module _ {K V : Type 0} {cmp : K → K → Ordering} (laws : IsTotalOrder cmp) {old : TreeState K V} (tree : IsBTree cmp old)
+    {a : Address} {left : ℕ} (inner : IsInnerAt old a left) {taken : TreeState K V} {y : K × V} {leaf_id : ℕ}
+    (takes : TakesLast old taken left y leaf_id) where
   abbrev node_at : NodeMap (K × V)
   node_at = node_map old
 
@@ -91,9 +91,6 @@ module _ {K V : Type 0} (cmp : K → K → Ordering) (laws : IsTotalOrder cmp) (
 
   pub well : IsWellFormed cmp node_at (Some root) old.len xs
   well = subst (λ t. IsWellFormed cmp node_at t old.len xs) root-is.1 tree
-
-  low : well.formed.height < 32
-  low = height-low (K × V) node_at root xs well.formed (let c = well.counted in omega arith)
 
   -- the last item under the child is the item before it
   leads : LeadsBefore old (address_at a.id inner.index) (Some (address_at leaf_id takes.index))
@@ -191,8 +188,11 @@ module _ {K V : Type 0} (cmp : K → K → Ordering) (laws : IsTotalOrder cmp) (
         })
 
     -- the last item is in the node now
-    module _ (mid : TreeState K V) (w : View (K × V)) (put : WritesNode (node_map taken) (node_map mid) a.id w)
+    module _ (small : old.len < 2 ^ 64) (mid : TreeState K V) (w : View (K × V)) (put : WritesNode (node_map taken) (node_map mid) a.id w)
         (has : HasItems inner.node w (set (items_of inner.node) inner.index y)) (top : mid.root ≡ old.root) where
+      low : well.formed.height < 32
+      low = height-low (K × V) node_at root xs well.formed (let c = well.counted in omega arith)
+
       mid-root : mid.root ≡ Some root
       mid-root = top ∙ root-is.1
 

@@ -1,21 +1,21 @@
 -- The steps of a removal at an address: what a node returned, and the tree in between.
-use Rattle.btree_ext.proofs.Common.{◌≡◌, ◌∙◌, ◌+◌, ◌<◌, ◌≤◌, ◌^◌, ℕ, suc, List, length, Option, Some, None, Ok, Err, Result, IsTrue, refl, sym, ap, subst, option_map, option_and_then, slice_get, arith, slice_get_within, IsTotalOrder, remove, Ordering, Address, Node, view_of, is_internal, leaf, children_of, item_in, items_of, size_of, address_at, WritesNode, TreeState, IsBTree, IsOffByOneAt, IsPlaceIn, IsUsed, IsValidIn, item_of, node_map, pairs_of, IsWellFormed, writes_node, with_node, HasRoom, IsRebalanced, HasChildBehind, IsInnerAt, IsRemoved, LeadsBehind}
+use Rattle.btree_ext.proofs.Common.{◌≡◌, ◌∙◌, ◌+◌, ◌-◌, ◌<◌, ◌≤◌, ◌^◌, ℕ, suc, List, length, Option, Some, None, Ok, Err, Result, IsTrue, sym, ap, subst, option_map, option_and_then, slice_get, arith, slice_get_within, IsTotalOrder, remove, Ordering, Address, Node, view_of, is_internal, leaf, children_of, item_in, items_of, size_of, address_at, WritesNode, TreeState, IsBTree, IsPlaceIn, IsUsed, item_of, node_map, pairs_of, IsWellFormed, writes_node, HasRoom, IsRebalanced, HasChildBehind, IsInnerAt, IsRemoved, LeadsBehind}
 use Rattle.std.proofs.Common.{OnOk, OnErr}
 use Rattle.std.proofs.lemmas.Option.{same_Some}
 use Rattle.std.specs.FinMap as finite
 use Rattle.btree_view.specs.Edits.{without_at}
 use Rattle.btree_view.specs.Removal.{removal_in}
-use Rattle.btree_view.specs.View.{children_in}
+use Rattle.btree_view.specs.View.{children_in, parent_of}
 use Rattle.btree_view.proofs.RemovalLemmas.{child-from_removal, item-from_removal, no_item-from_removal}
 use Rattle.btree_laws.specs.Focus.Positions.{address_before}
 use Rattle.btree_laws.proofs.Trees.Stores.{item-some}
 use Rattle.btree_laws.proofs.Paths.SiblingNumbers.{children-count}
-use Rattle.btree_raw.proofs.RebalanceLemmas.{enough-rebalanced}
 use Rattle.btree_find.specs.Navigation.{AreBeside, LeadsToItem}
 use Rattle.btree_find.proofs.NextLemmas.{next-below}
 use Rattle.btree_find.proofs.PreviousLemmas.{below-used}
 use Rattle.btree_find.proofs.WalkLemmas.{occupied-below}
 use Rattle.btree_ext.specs.Remove.{RebalancesLeaf}
+use Rattle.btree_ext.specs.Taken.{LacksOne, TakesLeaf, one_less}
 use Rattle.btree_ext.proofs.InnerLemmas.{node-of}
 use Rattle.btree_ext.proofs.RemoveLemmas.{removed-from-leaf, taken-counted, taken-off, taken-room, taken-valid}
 use Rattle.btree_ext.proofs.WrittenLaws.{no-node}
@@ -60,72 +60,82 @@ module _ {K V : Type 0} (old : TreeState K V) (a : Address) where
           child = c.5;
         }
 
-    -- at an item of a leaf
-    module _ (cmp : K → K → Ordering) (laws : IsTotalOrder cmp) (tree : IsBTree cmp old) (small : old.len < 2 ^ 64)
-        (x : K × V) (is : Some (Ok x) ≡ removal_in a.offset (view_of node)) (kept : Node K V)
-        (taken : view_of kept ≡ without_at a.offset (view_of node)) (len : ℕ) where
-      abbrev mid : TreeState K V
-      mid = record (with_node old a.id kept) { len = len }
+-- the item of a leaf was taken out
+module _ {K V : Type 0} {cmp : K → K → Ordering} (laws : IsTotalOrder cmp) {old mid : TreeState K V} (tree : IsBTree cmp old)
+    {a : Address} {x : K × V} (t : TakesLeaf old mid a x) where
+  pub leaf-is : (parent : Option ℕ) × (xs : List (K × V)) × (i : ℕ) × (view_of t.node ≡ leaf parent xs) × (a.offset ≡ Some i) × (slice_get xs i ≡ Some x)
+  leaf-is = item-from_removal (view_of t.node) a.offset x t.item
 
-      pub leaf-is : (parent : Option ℕ) × (xs : List (K × V)) × (i : ℕ) × (view_of node ≡ leaf parent xs) × (a.offset ≡ Some i) × (slice_get xs i ≡ Some x)
-      leaf-is = item-from_removal (view_of node) a.offset x is
+  abbrev parent : Option ℕ
+  parent = leaf-is.0
 
-      abbrev parent : Option ℕ
-      parent = leaf-is.0
+  abbrev xs : List (K × V)
+  xs = leaf-is.1
 
-      abbrev xs : List (K × V)
-      xs = leaf-is.1
+  abbrev index : ℕ
+  index = leaf-is.2
 
-      abbrev index : ℕ
-      index = leaf-is.2
+  pub leaf-here : node_map old a.id ≡ Some (leaf parent xs)
+  leaf-here = here old a t.node t.at ∙ ap Some leaf-is.3
 
-      pub leaf-here : node_map old a.id ≡ Some (leaf parent xs)
-      leaf-here = here ∙ ap Some leaf-is.3
+  pub shorter-is : view_of t.kept ≡ leaf parent (remove xs index)
+  shorter-is = t.shorter ∙ ap (λ o. without_at o (view_of t.node)) leaf-is.4 ∙ ap (λ v. without_at (Some index) v) leaf-is.3
 
-      pub shorter-is : view_of kept ≡ leaf parent (remove xs index)
-      shorter-is = taken ∙ ap (λ o. without_at o (view_of node)) leaf-is.4 ∙ ap (λ v. without_at (Some index) v) leaf-is.3
+  written : WritesNode (node_map old) (node_map mid) a.id (view_of t.kept)
+  written = writes_node old.nodes mid.nodes a.id t.kept (ap (λ (s : TreeState K V). s.nodes) t.after)
 
-      pub put : WritesNode (node_map old) (node_map mid) a.id (leaf parent (remove xs index))
-      put =
-          subst (λ v. WritesNode (node_map old) (node_map mid) a.id v) shorter-is
-          (writes_node old.nodes (finite.insert old.nodes a.id kept) a.id kept refl)
+  pub put : WritesNode (node_map old) (node_map mid) a.id (leaf parent (remove xs index))
+  put = subst (λ v. WritesNode (node_map old) (node_map mid) a.id v) shorter-is written
 
-      pub leaf-off : IsOffByOneAt cmp mid a.id
-      leaf-off = taken-off cmp laws old mid tree small a index leaf-is.4 parent xs x leaf-here leaf-is.5 put refl
+  pub top : mid.root ≡ old.root
+  top = ap (λ (s : TreeState K V). s.root) t.after
 
-      pub leaf-valid : IsValidIn mid a
-      leaf-valid = taken-valid cmp laws old mid tree small a index leaf-is.4 parent xs x leaf-here leaf-is.5 put refl
+  as-long : mid.len ≡ old.len
+  as-long = ap (λ (s : TreeState K V). s.len) t.after
 
-      abbrev pub leaf-room : HasRoom (node_map mid) a.id
-      leaf-room = taken-room cmp laws old mid tree small a index leaf-is.4 parent xs x leaf-here leaf-is.5 put refl
+  -- it was there
+  pub leaf-had : item_of old a ≡ Some x
+  leaf-had = ap (option_and_then (item_in (node_map old a.id))) leaf-is.4 ∙ ap (λ v. item_in v index) leaf-here ∙ leaf-is.5
 
-      pub leaf-counted : 1 ≤ old.len
-      leaf-counted = taken-counted cmp laws old mid tree small a index leaf-is.4 parent xs x leaf-here leaf-is.5 put refl
+  abbrev pub leaf-room : HasRoom (node_map mid) a.id
+  leaf-room = taken-room cmp laws old mid tree a index leaf-is.4 parent xs x leaf-here leaf-is.5 put top
 
-      leaf-taken : (new : TreeState K V) (b : Address) → len + 1 ≡ old.len → IsRebalanced mid new a.id cmp a b
-          → RebalancesLeaf old new cmp a b
-      leaf-taken new b shorter r = record {
-        taken = mid;
-        writes = λ v at.
-            let same : view_of node ≡ v = same_Some (view_of node) v (sym here ∙ at) in
-            subst (λ w. WritesNode (node_map old) (node_map mid) a.id w) (taken ∙ ap (without_at a.offset) same)
-            (writes_node old.nodes (finite.insert old.nodes a.id kept) a.id kept refl);
-        rest = refl;
-        shorter = sym shorter;
-        rebalanced = r;
-      }
+  module _ (few : mid.len < 2 ^ 64) where
+    small : old.len < 2 ^ 64
+    small = let e = as-long in omega arith
 
-      pub leaf-removed : (new : TreeState K V) (b : Address) → len + 1 ≡ old.len → IsRebalanced mid new a.id cmp a b
-          → IsRemoved old new cmp a x b
-      leaf-removed new b shorter r =
-          removed-from-leaf cmp laws old mid tree small a index leaf-is.4 parent xs x leaf-here leaf-is.5 put refl new b
-          shorter refl r (leaf-taken new b shorter r)
+    has-one : 1 ≤ old.len
+    has-one = taken-counted cmp laws old (one_less mid) tree a index leaf-is.4 parent xs x leaf-here leaf-is.5 put top small
 
-      -- with enough items left nothing is to be fixed
-      pub leaf-enough : len + 1 ≡ old.len → 2 < size_of (view_of kept) → IsRemoved old mid cmp a x a
-      leaf-enough shorter enough =
-          leaf-removed mid a shorter
-          (enough-rebalanced cmp laws mid a.id leaf-off a leaf-valid leaf-room (subst (λ v. 2 < size_of v) shorter-is enough))
+    pub leaf-lost : (count : ℕ) → count ≡ size_of (view_of t.kept) → (up : Option ℕ) → up ≡ parent_of (view_of t.kept) → LacksOne cmp mid a.id count up a
+    leaf-lost count counted up above = record {
+      some = let n = has-one in let e = as-long in omega arith;
+      off = taken-off cmp laws old (one_less mid) tree a index leaf-is.4 parent xs x leaf-here leaf-is.5 put top small;
+      valid = taken-valid cmp laws old (one_less mid) tree a index leaf-is.4 parent xs x leaf-here leaf-is.5 put top small;
+      room = leaf-room;
+      counted = ap (option_map size_of) written.here ∙ ap Some (sym counted);
+      above = ap (option_map parent_of) written.here ∙ ap Some (sym above);
+    }
+
+    shorter : (one_less mid).len + 1 ≡ old.len
+    shorter = let n = has-one in let e = as-long in omega arith
+
+    rebalances-leaf : (new : TreeState K V) (b : Address) → IsRebalanced (one_less mid) new a.id cmp a b → RebalancesLeaf old new cmp a b
+    rebalances-leaf new b r = record {
+      taken = one_less mid;
+      writes = λ v at.
+          let same : view_of t.node ≡ v = same_Some (view_of t.node) v (sym (here old a t.node t.at) ∙ at) in
+          subst (λ w. WritesNode (node_map old) (node_map mid) a.id w) (t.shorter ∙ ap (without_at a.offset) same) written;
+      rest = ap (λ (s : TreeState K V). record s { nodes = mid.nodes; len = mid.len - 1 }) t.after;
+      shorter = sym shorter;
+      rebalanced = r;
+    }
+
+    -- after the underflow is fixed
+    pub leaf-settled : (new : TreeState K V) (b : Address) → IsRebalanced (one_less mid) new a.id cmp a b → IsRemoved old new cmp a x b
+    leaf-settled new b r =
+        removed-from-leaf cmp laws old (one_less mid) tree a index leaf-is.4 parent xs x leaf-here leaf-is.5 put top small new b
+        shorter (ap (λ (s : TreeState K V). s.kept) t.after) r (rebalances-leaf new b r)
 
 module _ {K V : Type 0} (cmp : K → K → Ordering) (laws : IsTotalOrder cmp) (s : TreeState K V) (tree : IsBTree cmp s) where
   -- the item behind one of an internal node

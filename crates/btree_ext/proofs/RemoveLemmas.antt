@@ -170,7 +170,7 @@ module _ {K V : Type 0} (cmp : K → K → Ordering) (old mid : TreeState K V) (
           inner = at-inner;
         }
 
-module _ {K V : Type 0} (cmp : K → K → Ordering) (laws : IsTotalOrder cmp) (old mid : TreeState K V) (tree : IsBTree cmp old) (small : old.len < 2 ^ 64)
+module _ {K V : Type 0} (cmp : K → K → Ordering) (laws : IsTotalOrder cmp) (old mid : TreeState K V) (tree : IsBTree cmp old)
     (a : Address) (o : ℕ) (offset : a.offset ≡ Some o) (p : Option ℕ) (ys : List (K × V)) (x : K × V)
     (here : node_map old a.id ≡ Some (leaf p ys)) (stood : slice_get ys o ≡ Some x)
     (put : WritesNode (node_map old) (node_map mid) a.id (leaf p (remove ys o))) (top : mid.root ≡ old.root) where
@@ -199,53 +199,6 @@ module _ {K V : Type 0} (cmp : K → K → Ordering) (laws : IsTotalOrder cmp) (
   pub well : IsWellFormed cmp node_at (Some root) old.len xs
   well = subst (λ t. IsWellFormed cmp node_at t old.len xs) at-root tree
 
-  low : well.formed.height < 32
-  low = height-low (K × V) node_at root xs well.formed (let c = well.counted in omega arith)
-
-  a-is : a ≡ address_at a.id o
-  a-is = λ i. record { id = a.id; offset = offset i }
-
-  item-here : item_in (node_at a.id) o ≡ Some x
-  item-here = ap (λ v. item_in v o) here ∙ stood
-
-  pub place-on : (place : ℕ) × IsPlace node_at (Some root) xs a.id (Some o) place
-  place-on =
-      let n = valid-on (K × V) node_at root xs None (address_at a.id o) (IsSized root) well.formed (inl (item-within node_at o x (node_at a.id) item-here)) tt in
-      let d = positions-addressed (K × V) node_at root xs None (address_at a.id o) (IsSized root) n.place well.formed n.on in
-      (n.place, d.at_place)
-
-  abbrev place : ℕ
-  place = place-on.0
-
-  abbrev took : IsOffByOne cmp (node_map mid) root a.id (remove xs place)
-  took = take-off cmp laws node_at root old.len xs well low (node_map mid) a.id p ys o place x here stood place-on.1 put
-
-  listed : slice_get xs place ≡ Some x
-  listed = take-item cmp laws node_at root old.len xs well low (node_map mid) a.id p ys o place x here stood place-on.1 put
-
-  -- so the tree has a pair
-  pub taken-counted : 1 ≤ old.len
-  taken-counted =
-      let n = slice_get_within xs place x listed in
-      let c = well.counted in
-      omega arith
-
-  there : IsAddressed (K × V) (node_map mid) root (remove xs place) None a place
-  there =
-      subst (λ (b : Address). IsAddressed (K × V) (node_map mid) root (remove xs place) None b place) (sym a-is)
-      (positions-addressed (K × V) (node_map mid) root (remove xs place) None (address_at a.id o) (IsNearlySized root a.id) place took.rooted
-      (take-address cmp laws node_at root old.len xs well low (node_map mid) a.id p ys o place x here stood place-on.1 put))
-
-  pub taken-pairs : pairs_of mid ≡ remove xs place
-  taken-pairs = pairs-off cmp mid root a.id (remove xs place) mid-root took
-
-  -- what `rebalance` requires
-  pub taken-off : IsOffByOneAt cmp mid a.id
-  taken-off = is-off cmp mid root a.id (remove xs place) mid-root took
-
-  pub taken-valid : IsValidIn mid a
-  taken-valid = subst (λ t. IsValid (node_map mid) t a.id a.offset) (sym mid-root) there.valid
-
   abbrev pub taken-room : HasRoom (node_map mid) a.id
   taken-room = record {
     node = leaf p (remove ys o);
@@ -253,28 +206,76 @@ module _ {K V : Type 0} (cmp : K → K → Ordering) (laws : IsTotalOrder cmp) (
     room = let n = remove-shorter ys o x stood in let m = (well.formed.sized a.id (leaf p ys) here).1 in omega arith;
   }
 
-  taken-place : IsPlaceIn mid a place
-  taken-place =
-      subst (λ l. IsPlace (node_map mid) mid.root l a.id a.offset place) (sym taken-pairs)
-      (subst (λ t. IsPlace (node_map mid) t (remove xs place) a.id a.offset place) (sym mid-root) there.at_place)
+  module _ (small : old.len < 2 ^ 64) where
+    low : well.formed.height < 32
+    low = height-low (K × V) node_at root xs well.formed (let c = well.counted in omega arith)
 
-  at-place : IsPlaceIn old a place
-  at-place =
-      subst (λ t. IsPlace node_at t xs a.id a.offset place) (sym at-root)
-      (subst (λ q. IsPlace node_at (Some root) xs a.id q place) (sym offset) place-on.1)
+    a-is : a ≡ address_at a.id o
+    a-is = λ i. record { id = a.id; offset = offset i }
 
-  had : item_of old a ≡ Some x
-  had = ap (option_and_then (item_in (node_at a.id))) offset ∙ item-here
+    item-here : item_in (node_at a.id) o ≡ Some x
+    item-here = ap (λ v. item_in v o) here ∙ stood
 
-  -- after the underflow is fixed
-  pub removed-from-leaf : (new : TreeState K V) (b : Address) → mid.len + 1 ≡ old.len → mid.kept ≡ old.kept
-      → IsRebalanced mid new a.id cmp a b → RebalancesLeaf old new cmp a b → IsRemoved old new cmp a x b
-  removed-from-leaf new b len uncounted r taken =
-      removed-by cmp old mid root well laws at-root top a.id place a a x took
-      (take-height cmp laws node_at root old.len xs well low (node_map mid) a.id p ys o place x here stood place-on.1 put)
-      (leaf p (remove ys o)) put.here taken-room.room
-      (take-within cmp laws node_at root old.len xs well low (node_map mid) a.id p ys o place x here stood place-on.1 put)
-      (as-many-used cmp old mid root well
-      (put-used node_at (node_map mid) a.id (leaf p ys) (leaf p (remove ys o)) here put))
-      had at-place listed taken-place (subst (λ q. IsSome q) (sym offset) refl) new b len uncounted r
-      (λ at. taken) (λ left inner. absurd (no-inner old a p ys here left inner))
+    pub place-on : (place : ℕ) × IsPlace node_at (Some root) xs a.id (Some o) place
+    place-on =
+        let n = valid-on (K × V) node_at root xs None (address_at a.id o) (IsSized root) well.formed (inl (item-within node_at o x (node_at a.id) item-here)) tt in
+        let d = positions-addressed (K × V) node_at root xs None (address_at a.id o) (IsSized root) n.place well.formed n.on in
+        (n.place, d.at_place)
+
+    abbrev place : ℕ
+    place = place-on.0
+
+    abbrev took : IsOffByOne cmp (node_map mid) root a.id (remove xs place)
+    took = take-off cmp laws node_at root old.len xs well low (node_map mid) a.id p ys o place x here stood place-on.1 put
+
+    listed : slice_get xs place ≡ Some x
+    listed = take-item cmp laws node_at root old.len xs well low (node_map mid) a.id p ys o place x here stood place-on.1 put
+
+    -- so the tree has a pair
+    pub taken-counted : 1 ≤ old.len
+    taken-counted =
+        let n = slice_get_within xs place x listed in
+        let c = well.counted in
+        omega arith
+
+    there : IsAddressed (K × V) (node_map mid) root (remove xs place) None a place
+    there =
+        subst (λ (b : Address). IsAddressed (K × V) (node_map mid) root (remove xs place) None b place) (sym a-is)
+        (positions-addressed (K × V) (node_map mid) root (remove xs place) None (address_at a.id o) (IsNearlySized root a.id) place took.rooted
+        (take-address cmp laws node_at root old.len xs well low (node_map mid) a.id p ys o place x here stood place-on.1 put))
+
+    pub taken-pairs : pairs_of mid ≡ remove xs place
+    taken-pairs = pairs-off cmp mid root a.id (remove xs place) mid-root took
+
+    -- what `rebalance` requires
+    pub taken-off : IsOffByOneAt cmp mid a.id
+    taken-off = is-off cmp mid root a.id (remove xs place) mid-root took
+
+    pub taken-valid : IsValidIn mid a
+    taken-valid = subst (λ t. IsValid (node_map mid) t a.id a.offset) (sym mid-root) there.valid
+
+    taken-place : IsPlaceIn mid a place
+    taken-place =
+        subst (λ l. IsPlace (node_map mid) mid.root l a.id a.offset place) (sym taken-pairs)
+        (subst (λ t. IsPlace (node_map mid) t (remove xs place) a.id a.offset place) (sym mid-root) there.at_place)
+
+    at-place : IsPlaceIn old a place
+    at-place =
+        subst (λ t. IsPlace node_at t xs a.id a.offset place) (sym at-root)
+        (subst (λ q. IsPlace node_at (Some root) xs a.id q place) (sym offset) place-on.1)
+
+    had : item_of old a ≡ Some x
+    had = ap (option_and_then (item_in (node_at a.id))) offset ∙ item-here
+
+    -- after the underflow is fixed
+    pub removed-from-leaf : (new : TreeState K V) (b : Address) → mid.len + 1 ≡ old.len → mid.kept ≡ old.kept
+        → IsRebalanced mid new a.id cmp a b → RebalancesLeaf old new cmp a b → IsRemoved old new cmp a x b
+    removed-from-leaf new b len uncounted r taken =
+        removed-by cmp old mid root well laws at-root top a.id place a a x took
+        (take-height cmp laws node_at root old.len xs well low (node_map mid) a.id p ys o place x here stood place-on.1 put)
+        (leaf p (remove ys o)) put.here taken-room.room
+        (take-within cmp laws node_at root old.len xs well low (node_map mid) a.id p ys o place x here stood place-on.1 put)
+        (as-many-used cmp old mid root well
+        (put-used node_at (node_map mid) a.id (leaf p ys) (leaf p (remove ys o)) here put))
+        had at-place listed taken-place (subst (λ q. IsSome q) (sym offset) refl) new b len uncounted r
+        (λ at. taken) (λ left inner. absurd (no-inner old a p ys here left inner))

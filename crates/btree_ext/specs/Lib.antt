@@ -8,6 +8,7 @@ pub mod KeyWritten
 pub mod Lent
 pub mod Remove
 pub mod Replace
+pub mod Taken
 pub mod Update
 pub mod ValueWritten
 pub mod Outcomes

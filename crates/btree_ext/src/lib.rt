@@ -10,6 +10,7 @@ mod insertion;
 mod insertion_at;
 mod removal;
 mod replacement;
+mod taken;
 mod tree;
 mod updates;
 mod updates_at;

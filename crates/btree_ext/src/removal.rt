@@ -5,10 +5,11 @@ ghost use Rattle.btree_laws.specs.TreeState.{IsBTree, IsValidIn, item_of, pairs_
 ghost use Rattle.btree_raw.specs.Limit.{IsWithinLimit};
 ghost use Rattle.btree_ext.specs.Remove.{HasChildBehind, IsInnerAt, IsRemoved, RemovesBy, RemovesByKey, removed};
 
-use btree_find::{address_by, first_item_beside};
-use btree_item::{Address, Item, MIN_ITEMS, Query};
+use crate::taken::{Taken, settle, take_at, take_inner};
+use btree_find::address_by;
+use btree_item::{Address, Item, Query};
 use btree_node::NodesMut;
-use btree_raw::{RawBTree, rebalance_fetched, take_last_below};
+use btree_raw::RawBTree;
 
 /// Removes the item at an address. Returns it, with a back address at the place where it was. Returns `None`, and nothing changes, if there
 /// is no item at the address. It frees at most as many nodes as the tree has levels and needs no new one. A leaf is
@@ -30,25 +31,14 @@ pub fn remove_at<K: Ord + Drop, V: Drop, C: NodesMut<K, V>>(
     let Some(_root) = tree.root_id() else {
         return None;
     };
-    tree.tell_fits();
-    let node = tree.node_mut(addr.id);
-    match node.leaf_remove(addr.offset) {
-        None => None,
-        Some(Ok(item)) => {
-            let count = node.item_count();
-            let parent = node.parent();
-            tree.set_len(tree.len() - 1);
-            if count >= MIN_ITEMS {
-                return Some((item, addr));
-            }
+    match take_at(tree, addr) {
+        Taken::Nothing => None,
+        Taken::Leaf(item, count, parent) => {
             let id = addr.id;
-            let at = rebalance_fetched(tree, id, count, parent, addr);
+            let at = settle(tree, id, count, parent, addr);
             Some((item, at))
         }
-        Some(Err(left)) => {
-            let right = node.child_id(addr.offset.unwrap() + 1);
-            Some(remove_inner(tree, addr, left, right))
-        }
+        Taken::Inner(left, right) => Some(remove_inner(tree, addr, left, right)),
     }
 }
 
@@ -102,15 +92,7 @@ fn remove_inner<K: Ord + Drop, V: Drop, C: NodesMut<K, V>>(
     requires behind { HasChildBehind tree.old addr right }
     ensures { IsRemoved tree.old tree.new K.cmp addr result.0 result.1 }
 {
-    tree.tell_fits();
-    let len = tree.len();
-    let next = first_item_beside(tree, left, right);
-    let (last, leaf, count, parent) = take_last_below(tree, left);
-    let item = tree.node_mut(addr.id).replace(addr.offset, last);
-    tree.set_len(len - 1);
-    if count >= MIN_ITEMS {
-        return (item, next);
-    }
-    let at = rebalance_fetched(tree, leaf, count, parent, next);
+    let (item, leaf, count, parent, next) = take_inner(tree, addr, left, right);
+    let at = settle(tree, leaf, count, parent, next);
     (item, at)
 }

@@ -4,10 +4,10 @@ ghost use Rattle.btree_laws.specs.TreeState.{IsBTree, IsOccupiedIn, item_of};
 ghost use Rattle.btree_ext.specs.Remove.{HasChildBehind, IsInnerAt};
 ghost use Rattle.btree_ext.specs.Update.{RunsAt};
 
-use btree_find::first_item_beside;
-use btree_item::{Address, Item, MIN_ITEMS};
+use crate::taken::{Taken, settle, take_at, take_inner};
+use btree_item::{Address, Item};
 use btree_node::NodesMut;
-use btree_raw::{RawBTree, rebalance_fetched, take_last_below};
+use btree_raw::RawBTree;
 
 /// Calls `action` with the value at an address. The value that it gives takes the place of the old one, and the key stays; if it gives
 /// none, the pair is removed, as `remove_at` does. Returns the action's answer. It needs no new node and cannot fail.
@@ -25,26 +25,15 @@ where
     ensures { RunsAt K.cmp tree.old tree.new (F.post action) addr result }
 {
     tree.tell_fits();
-    let len = tree.len();
-    let node = tree.node_mut(addr.id);
-    match node.leaf_remove(addr.offset) {
-        None => unreachable!(),
-        Some(Err(left)) => {
-            let right = node.child_id(addr.offset.unwrap() + 1);
-            update_inner(tree, addr, left, right, action)
-        }
-        Some(Ok(item)) => {
-            let count = node.item_count();
-            let parent = node.parent();
+    match take_at(tree, addr) {
+        Taken::Nothing => unreachable!(),
+        Taken::Inner(left, right) => update_inner(tree, addr, left, right, action),
+        Taken::Leaf(item, count, parent) => {
             let (key, value) = item.into_pair();
             let (given, answer) = action(value);
             let Some(value) = given else {
-                tree.set_len(len - 1);
-                if count >= MIN_ITEMS {
-                    return answer;
-                }
                 let id = addr.id;
-                let _at = rebalance_fetched(tree, id, count, parent, addr);
+                settle(tree, id, count, parent, addr);
                 return answer;
             };
             tree.node_mut(addr.id)
@@ -75,18 +64,11 @@ where
     ensures { RunsAt K.cmp tree.old tree.new (F.post action) addr result }
 {
     tree.tell_fits();
-    let len = tree.len();
-    let next = first_item_beside(tree, left, right);
-    let (last, leaf, count, parent) = take_last_below(tree, left);
-    let item = tree.node_mut(addr.id).replace(addr.offset, last);
+    let (item, leaf, count, parent, next) = take_inner(tree, addr, left, right);
     let (key, value) = item.into_pair();
     let (given, answer) = action(value);
     let Some(value) = given else {
-        tree.set_len(len - 1);
-        if count >= MIN_ITEMS {
-            return answer;
-        }
-        let _at = rebalance_fetched(tree, leaf, count, parent, next);
+        settle(tree, leaf, count, parent, next);
         return answer;
     };
     let last = tree
