@@ -1,9 +1,12 @@
 -- What callers conclude from the words of a map of ranges: which numbers are between two others, which values they have after
 -- an insertion, and how many have one, which values the ranges have that meet some numbers, which numbers are in a gap or below
--- it, where a gap is, and that `==` is equality of the ranges.
--- The ruleset gives `search` the laws on insertions, on ranges that meet, and on gaps.
+-- it, where a gap is, how many parts an update has, and that `==` is equality of the ranges.
+-- The ruleset gives `search` the laws on insertions, on ranges that meet, on gaps and on parts.
 use Rattle.std.proofs.Common.{◌≡◌, ◌≤◌, ◌<◌, ◌+◌, ◌-◌, ◌∙◌, ◌||◌, ℕ, max, min, Bool, true, false, is_some, nat_eq, nat_le, nat_lt, List, [], ◌∷◌, cond, Option, Some, None, refl, sym, ap, arith, ◌⊎◌, inl, inr, Decides}
 use Rattle.std.proofs.lemmas.Bool.{and_from, and_parts, cases_Bool, eq-eqb, eqb-true, le-leb, leb-true, lt-ltb, ltb-true}
+use Rattle.std.proofs.lemmas.List.{length-map}
+use Rattle.std.proofs.lemmas.List.Sums.{count_by-le-length, length-filter}
+use Rattle.std.specs.Prelude.{length}
 use Rattle.std.specs.Cmp.Lexicographic.{pointwise_decides}
 use Rattle.btree_map.specs.Comparison.{pair_eq}
 use Rattle.btree_range_map.specs.declared.span.Span.{Span}
@@ -13,6 +16,7 @@ use Rattle.btree_range_map.specs.Counts.{count_between}
 use Rattle.btree_range_map.specs.Gaps.{AreGaps}
 use Rattle.btree_range_map.specs.SameRanges.{ranges_eq, span_eq}
 use Rattle.btree_range_map.specs.Ranges.{IsAssigned, Overlaps, OverlapsNone, TellsSame, has_value, is_between, is_within, meets, ranges_meeting, value_at}
+use Rattle.btree_range_map.specs.Updates.{part_between, parts_between}
 
 -- ---- a number between two others
 -- one from a start to below an end is between them
@@ -157,7 +161,16 @@ module _ {V : Type 0} where
   pub gap-rest : (s e : ℕ) (xs : List (ℕ × Span V)) (gap : ℕ × ℕ) (rest : List (ℕ × ℕ)) → AreGaps xs s e (gap ∷ rest) → AreGaps xs gap.1 e rest
   gap-rest s e xs gap rest gaps = gaps-rest (has_value xs) s e gap rest gaps
 
-pub ruleset range_laws = (between-below, between-above, found-inserted, found-other, value-meeting, none-meet, some-meet, no-gap, in-gap, below-gap, gap-some)
+  -- ---- updates
+  -- there are at most as many parts as ranges
+  pub parts-few : (s e : ℕ) (xs : List (ℕ × Span V)) → length (parts_between s e xs) ≤ length xs
+  parts-few s e xs =
+      let mapped : length (parts_between s e xs) ≡ length (ranges_meeting s e xs) = length-map (ranges_meeting s e xs) (part_between s e) in
+      let kept = length-filter (meets s e) xs in
+      let most = count_by-le-length (meets s e) xs in
+      omega (arith, mapped, kept, most)
+
+pub ruleset range_laws = (between-below, between-above, found-inserted, found-other, value-meeting, none-meet, some-meet, no-gap, in-gap, below-gap, gap-some, parts-few)
 
 -- ---- equal maps
 module _ {V : Type 0} (eq : V → V → Bool) (tells : TellsSame eq) where

@@ -4,5 +4,10 @@ pub use Rattle.btree_ext.specs.CallerLaws.{edit_laws}
 pub use Rattle.btree_map.specs.CallerLaws.{map_laws}
 pub use Rattle.btree_map.proofs.LookUpLaws.{look_up_laws}
 pub use Rattle.btree_set.proofs.SetLaws.{set_laws}
-pub use Rattle.btree_range_set.specs.CallerLaws.{range_laws as range_set_laws}
-pub use Rattle.btree_range_map.specs.CallerLaws.{range_laws as range_map_laws}
+use Rattle.btree_range_set.specs.CallerLaws.{range_laws as set_ranges}
+use Rattle.btree_range_set.specs.CountLaws.{count-not}
+use Rattle.btree_range_map.specs.CallerLaws.{range_laws as map_ranges}
+
+pub ruleset range_set_laws = (set_ranges, count-not)
+
+pub ruleset range_map_laws = (map_ranges, count-not)
