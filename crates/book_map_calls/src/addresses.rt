@@ -5,7 +5,6 @@ use btree_item::Address;
 use btree_map::BTreeMap;
 use btree_node::NodesMut;
 use btree_steps::Steps;
-use std::alloc::AllocError;
 
 type Map<C> = BTreeMap<u64, u64, C>;
 
@@ -45,14 +44,14 @@ pub(crate) fn put_search<C: NodesMut<u64, u64>>(
     map: &Map<C>,
     found: Result<Address, Address>,
     reply: &mut Reply,
-) -> Result<(), AllocError> {
+) {
     match found {
         Ok(addr) => {
-            reply.word("found")?;
+            reply.word("found");
             put_address(reply, map.as_raw(), Some(addr))
         }
         Err(gap) => {
-            reply.word("gap")?;
+            reply.word("gap");
             put_address(reply, map.as_raw(), Some(gap))
         }
     }
@@ -64,23 +63,19 @@ fn visit<C: NodesMut<u64, u64>>(
     addr: Address,
     is_forward: bool,
     reply: &mut Reply,
-) -> Result<Option<Address>, AllocError> {
-    put_address(reply, map.as_raw(), Some(addr))?;
+) -> Option<Address> {
+    put_address(reply, map.as_raw(), Some(addr));
     if !map.is_valid(addr) {
-        return Ok(None);
+        return None;
     }
     if is_forward {
-        return Ok(map.next_back_address(addr));
+        return map.next_back_address(addr);
     }
-    Ok(map.previous_front_address(addr))
+    map.previous_front_address(addr)
 }
 
 // Adds each back address in order, or each front address backwards.
-fn visits<C: NodesMut<u64, u64>>(
-    map: &Map<C>,
-    is_forward: bool,
-    reply: &mut Reply,
-) -> Result<(), AllocError> {
+fn visits<C: NodesMut<u64, u64>>(map: &Map<C>, is_forward: bool, reply: &mut Reply) {
     let mut next = if is_forward {
         Some(map.first_back_address())
     } else {
@@ -90,31 +85,27 @@ fn visits<C: NodesMut<u64, u64>>(
         let Some(addr) = next else {
             break;
         };
-        next = visit(map, addr, is_forward, reply)?;
+        next = visit(map, addr, is_forward, reply);
     }
-    reply.word("none")
+    reply.word("none");
 }
 
-fn ends<C: NodesMut<u64, u64>>(
-    map: &Map<C>,
-    verb: &str,
-    reply: &mut Reply,
-) -> Result<bool, AllocError> {
+fn ends<C: NodesMut<u64, u64>>(map: &Map<C>, verb: &str, reply: &mut Reply) -> bool {
     let raw = map.as_raw();
     match verb {
-        "first_item_address" => put_address(reply, raw, map.first_item_address())?,
-        "last_item_address" => put_address(reply, raw, map.last_item_address())?,
-        "first_back_address" => put_address(reply, raw, Some(map.first_back_address()))?,
-        "last_valid_address" => put_address(reply, raw, Some(map.last_valid_address()))?,
-        "visit_backs" => visits(map, true, reply)?,
-        "visit_fronts" => visits(map, false, reply)?,
+        "first_item_address" => put_address(reply, raw, map.first_item_address()),
+        "last_item_address" => put_address(reply, raw, map.last_item_address()),
+        "first_back_address" => put_address(reply, raw, Some(map.first_back_address())),
+        "last_valid_address" => put_address(reply, raw, Some(map.last_valid_address())),
+        "visit_backs" => visits(map, true, reply),
+        "visit_fronts" => visits(map, false, reply),
         "root" => match map.root_id() {
-            Some(root) => put_node(reply, raw, root)?,
-            None => reply.word("none")?,
+            Some(root) => put_node(reply, raw, root),
+            None => reply.word("none"),
         },
-        _ => return Ok(false),
+        _ => return false,
     }
-    Ok(true)
+    true
 }
 
 // Steps from an address that is valid.
@@ -123,10 +114,10 @@ fn navigate<C: NodesMut<u64, u64>>(
     verb: &str,
     addr: Address,
     reply: &mut Reply,
-) -> Result<bool, AllocError> {
+) -> bool {
     if !map.is_valid(addr) {
-        reply.word("not valid")?;
-        return Ok(true);
+        reply.word("not valid");
+        return true;
     }
     let answer = match verb {
         "normalize" => map.normalize(addr),
@@ -136,10 +127,10 @@ fn navigate<C: NodesMut<u64, u64>>(
         "next_back_address" => map.next_back_address(addr),
         "previous_front_address" => map.previous_front_address(addr),
         "leaf_address" => Some(map.leaf_address(addr)),
-        _ => return Ok(false),
+        _ => return false,
     };
-    put_address(reply, map.as_raw(), answer)?;
-    Ok(true)
+    put_address(reply, map.as_raw(), answer);
+    true
 }
 
 // Asks whether a key fits at an address, or replaces the key there.
@@ -149,17 +140,17 @@ fn fitting<C: NodesMut<u64, u64>>(
     addr: Address,
     key: u64,
     reply: &mut Reply,
-) -> Result<bool, AllocError> {
+) -> bool {
     if !map.is_valid(addr) {
-        reply.word("not valid")?;
-        return Ok(true);
+        reply.word("not valid");
+        return true;
     }
     match verb {
-        "fits_at" => reply.truth(map.fits_at(addr, &key))?,
-        "replaces_at" => reply.truth(map.replaces_at(addr, &key))?,
-        _ => return Ok(false),
+        "fits_at" => reply.truth(map.fits_at(addr, &key)),
+        "replaces_at" => reply.truth(map.replaces_at(addr, &key)),
+        _ => return false,
     }
-    Ok(true)
+    true
 }
 
 fn by_address<C: NodesMut<u64, u64>>(
@@ -167,49 +158,45 @@ fn by_address<C: NodesMut<u64, u64>>(
     verb: &str,
     words: &str,
     reply: &mut Reply,
-) -> Result<bool, AllocError> {
+) -> bool {
     let (first, more) = word(words);
     let Some(addr) = map_address(map, first) else {
-        return Ok(false);
+        return false;
     };
     if let Some(key) = number(more) {
         return fitting(map, verb, addr, key, reply);
     }
     match verb {
-        "is_valid" => reply.truth(map.is_valid(addr))?,
+        "is_valid" => reply.truth(map.is_valid(addr)),
         "item" => match map.item(addr) {
-            Some(item) => reply.pair(*item.key(), *item.value())?,
-            None => reply.word("none")?,
+            Some(item) => reply.pair(*item.key(), *item.value()),
+            None => reply.word("none"),
         },
-        "pair_at" if map.item(addr).is_none() => reply.word("not occupied")?,
+        "pair_at" if map.item(addr).is_none() => reply.word("not occupied"),
         "pair_at" => {
             let (key, value) = map.pair_at(addr);
-            reply.pair(*key, *value)?
+            reply.pair(*key, *value)
         }
         _ => return navigate(map, verb, addr, reply),
     }
-    Ok(true)
+    true
 }
 
 // Adds what a node is: its parent, and how many items and children it has.
-fn put_content<C: NodesMut<u64, u64>>(
-    map: &Map<C>,
-    id: usize,
-    reply: &mut Reply,
-) -> Result<(), AllocError> {
+fn put_content<C: NodesMut<u64, u64>>(map: &Map<C>, id: usize, reply: &mut Reply) {
     if !map.has_node(id) {
         return reply.word("no node");
     }
     let node = map.node(id);
-    reply.word("parent")?;
+    reply.word("parent");
     match node.parent() {
-        Some(parent) => put_node(reply, map.as_raw(), parent)?,
-        None => reply.word("none")?,
+        Some(parent) => put_node(reply, map.as_raw(), parent),
+        None => reply.word("none"),
     }
-    reply.word("items")?;
-    reply.count(node.item_count())?;
-    reply.word("children")?;
-    reply.count(node.child_count())
+    reply.word("items");
+    reply.count(node.item_count());
+    reply.word("children");
+    reply.count(node.child_count());
 }
 
 // Looks under a node.
@@ -219,27 +206,22 @@ fn under<C: NodesMut<u64, u64>>(
     id: usize,
     key: u64,
     reply: &mut Reply,
-) -> Result<bool, AllocError> {
+) -> bool {
     if !map.has_node(id) {
-        reply.word("no node")?;
-        return Ok(true);
+        reply.word("no node");
+        return true;
     }
     match verb {
-        "get_in" => reply.value(map.get_in(&key, id).copied())?,
-        "address_in" => put_search(map, map.address_in(id, &key), reply)?,
-        "key_fits_in" => reply.truth(map.key_fits_in(id, &key))?,
-        _ => return Ok(false),
+        "get_in" => reply.value(map.get_in(&key, id).copied()),
+        "address_in" => put_search(map, map.address_in(id, &key), reply),
+        "key_fits_in" => reply.truth(map.key_fits_in(id, &key)),
+        _ => return false,
     }
-    Ok(true)
+    true
 }
 
 // Compares a node and those below it with a parent and two separators, each of which may be `none`.
-fn validate_node<C: NodesMut<u64, u64>>(
-    map: &Map<C>,
-    id: usize,
-    words: &str,
-    reply: &mut Reply,
-) -> Result<(), AllocError> {
+fn validate_node<C: NodesMut<u64, u64>>(map: &Map<C>, id: usize, words: &str, reply: &mut Reply) {
     if !map.has_node(id) {
         return reply.word("no node");
     }
@@ -257,19 +239,19 @@ fn by_node<C: NodesMut<u64, u64>>(
     verb: &str,
     words: &str,
     reply: &mut Reply,
-) -> Result<bool, AllocError> {
+) -> bool {
     let (first, more) = word(words);
     let Some(id) = map_node(map, first) else {
-        return Ok(false);
+        return false;
     };
     match (verb, number(more)) {
-        ("has_node", _) => reply.truth(map.has_node(id))?,
-        ("node", _) => put_content(map, id, reply)?,
-        ("validate_node", _) => validate_node(map, id, more, reply)?,
+        ("has_node", _) => reply.truth(map.has_node(id)),
+        ("node", _) => put_content(map, id, reply),
+        ("validate_node", _) => validate_node(map, id, more, reply),
         (_, Some(key)) => return under(map, verb, id, key, reply),
-        _ => return Ok(false),
+        _ => return false,
     }
-    Ok(true)
+    true
 }
 
 /// Serves a call by address that changes nothing. Returns whether the words are one.
@@ -278,12 +260,12 @@ pub(crate) fn serve_addresses<C: NodesMut<u64, u64>>(
     verb: &str,
     rest: &str,
     reply: &mut Reply,
-) -> Result<bool, AllocError> {
+) -> bool {
     match (verb, number(rest)) {
-        ("address_of", Some(key)) => put_search(map, map.address_of(&key), reply)?,
+        ("address_of", Some(key)) => put_search(map, map.address_of(&key), reply),
         ("address_of_counted", Some(key)) => {
             let found = map.address_of_counted(&key, &mut Steps::new());
-            put_search(map, found, reply)?
+            put_search(map, found, reply)
         }
         ("has_node" | "node" | "validate_node" | "get_in" | "address_in" | "key_fits_in", None) =>
             return by_node(map, verb, rest, reply),
@@ -300,5 +282,5 @@ pub(crate) fn serve_addresses<C: NodesMut<u64, u64>>(
         _ if verb.ends_with("_address") && rest != "" => return by_address(map, verb, rest, reply),
         _ => return ends(map, verb, reply),
     }
-    Ok(true)
+    true
 }

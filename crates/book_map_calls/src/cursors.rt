@@ -4,7 +4,6 @@ use book_text::{Reply, low, number, put_address, word};
 use btree_ext::BTreeExt;
 use btree_map::{BTreeMap, EntriesMut};
 use btree_node::NodesMut;
-use std::alloc::AllocError;
 use std::ops::Bound;
 
 type Map<C> = BTreeMap<u64, u64, C>;
@@ -14,7 +13,7 @@ fn insert<C: NodesMut<u64, u64>>(
     key: u64,
     value: u64,
     reply: &mut Reply,
-) -> Result<(), AllocError> {
+) {
     if !entries.fits(&key) {
         return reply.word("unfit");
     }
@@ -34,7 +33,7 @@ fn step<C: NodesMut<u64, u64>>(
     entries: &mut EntriesMut<'_, u64, u64, C>,
     word: &str,
     reply: &mut Reply,
-) -> Result<(), AllocError> {
+) {
     let (verb, action) = read_step(word);
     match (verb, number(verb), action) {
         (_, Some(key), Some(Action::Set(value))) => insert(entries, key, value, reply),
@@ -68,22 +67,19 @@ fn step_with_number<C: NodesMut<u64, u64>>(
     entries: &mut EntriesMut<'_, u64, u64, C>,
     word: &str,
     reply: &mut Reply,
-) -> Result<(), AllocError> {
+) {
     match word.split_once(':') {
         Some(("fits", key)) => match number(key) {
             Some(key) => reply.truth(entries.fits(&key)),
             None => {
                 reply.unknown();
-                Ok(())
             }
         },
         Some(("skip", count)) => {
             skip(entries, number(count).unwrap_or(0));
-            Ok(())
         }
         _ => {
             reply.unknown();
-            Ok(())
         }
     }
 }
@@ -93,25 +89,20 @@ fn steps<C: NodesMut<u64, u64>>(
     entries: &mut EntriesMut<'_, u64, u64, C>,
     words: &str,
     reply: &mut Reply,
-) -> Result<(), AllocError> {
+) {
     if words == "" {
         return reply.word("dropped");
     }
     for word in words.split(' ') {
-        step(entries, word, reply)?;
+        step(entries, word, reply);
     }
-    Ok(())
 }
 
 // Adds the address where a cursor stands that starts at a bound.
-fn address_from<C: NodesMut<u64, u64>>(
-    map: &mut Map<C>,
-    start: Bound<&u64>,
-    reply: &mut Reply,
-) -> Result<(), AllocError> {
+fn address_from<C: NodesMut<u64, u64>>(map: &mut Map<C>, start: Bound<&u64>, reply: &mut Reply) {
     let entries = map.entries_mut_from(start);
     let at = entries.address();
-    put_address(reply, map.as_raw(), at)
+    put_address(reply, map.as_raw(), at);
 }
 
 // Does a call of a cursor that starts at a bound.
@@ -120,17 +111,17 @@ fn from_bound<C: NodesMut<u64, u64>>(
     verb: &str,
     words: &str,
     reply: &mut Reply,
-) -> Result<bool, AllocError> {
+) -> bool {
     let (start, rest) = word(words);
     let Some(start) = low(start) else {
-        return Ok(false);
+        return false;
     };
     match verb {
-        "entries_mut_from" => steps(&mut map.entries_mut_from(start.as_ref()), rest, reply)?,
-        "address_from" => address_from(map, start.as_ref(), reply)?,
-        _ => return Ok(false),
+        "entries_mut_from" => steps(&mut map.entries_mut_from(start.as_ref()), rest, reply),
+        "address_from" => address_from(map, start.as_ref(), reply),
+        _ => return false,
     }
-    Ok(true)
+    true
 }
 
 // Takes so many pairs of a drain that writes to the values, and drops it.
@@ -139,7 +130,7 @@ fn drain<C: NodesMut<u64, u64>>(
     (pick, raise): (Pick, Raise),
     count: u64,
     reply: &mut Reply,
-) -> Result<(), AllocError> {
+) {
     let mut calls = 0u64;
     let mut drain = map.drain_filter(move |key: &u64, value: &mut u64| {
         calls = calls.wrapping_add(1);
@@ -147,10 +138,10 @@ fn drain<C: NodesMut<u64, u64>>(
         picks(pick, *key)
     });
     for _ in 0..count {
-        reply.found(drain.next())?;
+        reply.found(drain.next());
     }
     drop(drain);
-    reply.word("dropped")
+    reply.word("dropped");
 }
 
 // Takes so many pairs of a drain, with the hint before the first and after each.
@@ -159,15 +150,15 @@ fn drain_with_hints<C: NodesMut<u64, u64>>(
     pick: Pick,
     count: u64,
     reply: &mut Reply,
-) -> Result<(), AllocError> {
+) {
     let mut drain = map.drain_filter(move |key: &u64, _value: &mut u64| picks(pick, *key));
-    reply.hint(drain.size_hint())?;
+    reply.hint(drain.size_hint());
     for _ in 0..count {
-        reply.found(drain.next())?;
-        reply.hint(drain.size_hint())?;
+        reply.found(drain.next());
+        reply.hint(drain.size_hint());
     }
     drop(drain);
-    reply.word("dropped")
+    reply.word("dropped");
 }
 
 // Takes so many pairs of a drain that writes to the values, and finishes it.
@@ -176,7 +167,7 @@ fn finish<C: NodesMut<u64, u64>>(
     (pick, raise): (Pick, Raise),
     count: u64,
     reply: &mut Reply,
-) -> Result<(), AllocError> {
+) {
     let mut calls = 0u64;
     let mut drain = map.drain_filter(move |key: &u64, value: &mut u64| {
         calls = calls.wrapping_add(1);
@@ -184,10 +175,10 @@ fn finish<C: NodesMut<u64, u64>>(
         picks(pick, *key)
     });
     for _ in 0..count {
-        reply.found(drain.next())?;
+        reply.found(drain.next());
     }
     drain.finish();
-    reply.word("finished")
+    reply.word("finished");
 }
 
 // Keeps the pairs that a test picks, and adds how often it was called.
@@ -195,15 +186,15 @@ fn retain<C: NodesMut<u64, u64>>(
     map: &mut Map<C>,
     (pick, raise): (Pick, Raise),
     reply: &mut Reply,
-) -> Result<(), AllocError> {
+) {
     let mut calls = 0u64;
     map.retain(|key: &u64, value: &mut u64| {
         calls = calls.wrapping_add(1);
         *value = raised(raise, *value, calls);
         picks(pick, *key)
     });
-    reply.word("calls")?;
-    reply.number(calls)
+    reply.word("calls");
+    reply.number(calls);
 }
 
 /// Serves a cursor or a drain. Returns whether the words are one.
@@ -212,27 +203,27 @@ pub(crate) fn serve_cursors<C: NodesMut<u64, u64>>(
     verb: &str,
     rest: &str,
     reply: &mut Reply,
-) -> Result<bool, AllocError> {
+) -> bool {
     if verb == "entries_mut" {
-        steps(&mut map.entries_mut(), rest, reply)?;
-        return Ok(true);
+        steps(&mut map.entries_mut(), rest, reply);
+        return true;
     }
-    if from_bound(map, verb, rest, reply)? {
-        return Ok(true);
+    if from_bound(map, verb, rest, reply) {
+        return true;
     }
     let (first, more) = word(rest);
     let Some(pick) = read_pick(first) else {
-        return Ok(false);
+        return false;
     };
     let (count, by) = word(more);
     match (verb, number(count), read_raise(by), read_raise(more)) {
-        ("retain", _, _, Some(raise)) => retain(map, (pick, raise), reply)?,
-        ("drain", Some(count), Some(raise), _) => drain(map, (pick, raise), count, reply)?,
+        ("retain", _, _, Some(raise)) => retain(map, (pick, raise), reply),
+        ("drain", Some(count), Some(raise), _) => drain(map, (pick, raise), count, reply),
         ("drain", Some(count), None, _) if by == "hint" => drain_with_hints(
             map, pick, count, reply,
-        )?,
-        ("finish", Some(count), Some(raise), _) => finish(map, (pick, raise), count, reply)?,
-        _ => return Ok(false),
+        ),
+        ("finish", Some(count), Some(raise), _) => finish(map, (pick, raise), count, reply),
+        _ => return false,
     }
-    Ok(true)
+    true
 }

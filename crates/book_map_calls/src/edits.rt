@@ -6,7 +6,6 @@ use btree_ext::{BTreeExt, BTreeExtMut};
 use btree_item::{Address, Item, UpdateRefused};
 use btree_map::BTreeMap;
 use btree_node::NodesMut;
-use std::alloc::AllocError;
 
 type Map<C> = BTreeMap<u64, u64, C>;
 
@@ -15,7 +14,7 @@ fn insert_at<C: NodesMut<u64, u64>>(
     addr: Address,
     (key, value): (u64, u64),
     reply: &mut Reply,
-) -> Result<(), AllocError> {
+) {
     let offset = addr.offset;
     if offset.is_before() || !map.is_valid(addr) {
         return reply.word("not valid");
@@ -34,7 +33,7 @@ fn insert_exactly_at<C: NodesMut<u64, u64>>(
     addr: Address,
     (key, value): (u64, u64),
     reply: &mut Reply,
-) -> Result<(), AllocError> {
+) {
     let offset = addr.offset;
     if offset.is_before() || !map.is_valid(addr) {
         return reply.word("not valid");
@@ -57,7 +56,7 @@ fn replace_at<C: NodesMut<u64, u64>>(
     addr: Address,
     (key, value): (u64, u64),
     reply: &mut Reply,
-) -> Result<(), AllocError> {
+) {
     if !map.is_valid(addr) {
         return reply.word("not valid");
     }
@@ -65,7 +64,7 @@ fn replace_at<C: NodesMut<u64, u64>>(
         return reply.word("unfit");
     }
     let (key, value) = map.replace_at(addr, key, value);
-    reply.pair(key, value)
+    reply.pair(key, value);
 }
 
 fn replace_key_at<C: NodesMut<u64, u64>>(
@@ -73,7 +72,7 @@ fn replace_key_at<C: NodesMut<u64, u64>>(
     addr: Address,
     key: u64,
     reply: &mut Reply,
-) -> Result<(), AllocError> {
+) {
     if !map.is_valid(addr) {
         return reply.word("not valid");
     }
@@ -81,7 +80,7 @@ fn replace_key_at<C: NodesMut<u64, u64>>(
         return reply.word("unfit");
     }
     let old = map.replace_key_at(addr, key);
-    reply.number(old)
+    reply.number(old);
 }
 
 fn replace_value_at<C: NodesMut<u64, u64>>(
@@ -89,25 +88,21 @@ fn replace_value_at<C: NodesMut<u64, u64>>(
     addr: Address,
     value: u64,
     reply: &mut Reply,
-) -> Result<(), AllocError> {
+) {
     if map.item(addr).is_none() {
         return reply.word("not occupied");
     }
     let old = map.replace_value_at(addr, value);
-    reply.number(old)
+    reply.number(old);
 }
 
-fn remove_at<C: NodesMut<u64, u64>>(
-    map: &mut Map<C>,
-    addr: Address,
-    reply: &mut Reply,
-) -> Result<(), AllocError> {
+fn remove_at<C: NodesMut<u64, u64>>(map: &mut Map<C>, addr: Address, reply: &mut Reply) {
     if !map.is_valid(addr) {
         return reply.word("not valid");
     }
     match map.remove_at(addr) {
         Some((item, at)) => {
-            reply.pair(*item.key(), *item.value())?;
+            reply.pair(*item.key(), *item.value());
             put_address(reply, map.as_raw(), Some(at))
         }
         None => reply.word("none"),
@@ -119,12 +114,12 @@ fn update_at<C: NodesMut<u64, u64>>(
     addr: Address,
     action: Action,
     reply: &mut Reply,
-) -> Result<(), AllocError> {
+) {
     if map.item(addr).is_none() {
         return reply.word("not occupied");
     }
     let found = map.update_at(addr, |found| (given(action, Some(found)), found));
-    reply.number(found)
+    reply.number(found);
 }
 
 fn update_in<C: NodesMut<u64, u64>>(
@@ -133,7 +128,7 @@ fn update_in<C: NodesMut<u64, u64>>(
     key: u64,
     action: Action,
     reply: &mut Reply,
-) -> Result<(), AllocError> {
+) {
     if !map.has_node(id) {
         return reply.word("no node");
     }
@@ -143,9 +138,9 @@ fn update_in<C: NodesMut<u64, u64>>(
     match map.update_in(id, key, |found| (given(action, found), found)) {
         Ok(found) => reply.value(found),
         Err(UpdateRefused { cause, key, action }) => {
-            reply.refused_key(cause, key)?;
+            reply.refused_key(cause, key);
             let (given, _) = action(None);
-            reply.word("gives")?;
+            reply.word("gives");
             reply.value(given)
         }
     }
@@ -157,7 +152,7 @@ fn get_mut_in<C: NodesMut<u64, u64>>(
     key: u64,
     action: Action,
     reply: &mut Reply,
-) -> Result<(), AllocError> {
+) {
     if !map.has_node(id) {
         return reply.word("no node");
     }
@@ -172,7 +167,7 @@ fn item_mut<C: NodesMut<u64, u64>>(
     addr: Address,
     action: Action,
     reply: &mut Reply,
-) -> Result<(), AllocError> {
+) {
     if !map.is_valid(addr) {
         return reply.word("not valid");
     }
@@ -187,19 +182,19 @@ fn under<C: NodesMut<u64, u64>>(
     verb: &str,
     words: &str,
     reply: &mut Reply,
-) -> Result<bool, AllocError> {
+) -> bool {
     let (at, rest) = word(words);
     let (key, by) = word(rest);
     let (Some(id), Some(key), Some(action)) = (map_node(map, at), number(key), read_action(by))
     else {
-        return Ok(false);
+        return false;
     };
     if verb == "update_in" {
-        update_in(map, id, key, action, reply)?;
+        update_in(map, id, key, action, reply);
     } else {
-        get_mut_in(map, id, key, action, reply)?;
+        get_mut_in(map, id, key, action, reply);
     }
-    Ok(true)
+    true
 }
 
 /// Serves a call by address that changes the map. Returns whether the words are one.
@@ -208,29 +203,29 @@ pub(crate) fn serve_edits<C: NodesMut<u64, u64>>(
     verb: &str,
     rest: &str,
     reply: &mut Reply,
-) -> Result<bool, AllocError> {
+) -> bool {
     if verb == "update_in" || verb == "get_mut_in" {
         return under(map, verb, rest, reply);
     }
     let (first, more) = word(rest);
     let Some(addr) = map_address(map, first) else {
-        return Ok(false);
+        return false;
     };
     if let ("replace_key_at", Some(key)) = (verb, number(more)) {
-        replace_key_at(map, addr, key, reply)?;
-        return Ok(true);
+        replace_key_at(map, addr, key, reply);
+        return true;
     }
     match (verb, pair(more), read_action(more)) {
-        ("insert_at", Some(pair), _) => insert_at(map, addr, pair, reply)?,
-        ("insert_exactly_at", Some(pair), _) => insert_exactly_at(map, addr, pair, reply)?,
-        ("replace_at", Some(pair), _) => replace_at(map, addr, pair, reply)?,
+        ("insert_at", Some(pair), _) => insert_at(map, addr, pair, reply),
+        ("insert_exactly_at", Some(pair), _) => insert_exactly_at(map, addr, pair, reply),
+        ("replace_at", Some(pair), _) => replace_at(map, addr, pair, reply),
         ("replace_value_at", _, Some(Action::Set(value))) => replace_value_at(
             map, addr, value, reply,
-        )?,
-        ("item_mut", _, Some(action)) => item_mut(map, addr, action, reply)?,
-        ("update_at", _, Some(action)) => update_at(map, addr, action, reply)?,
-        ("remove_at", None, None) if more == "" => remove_at(map, addr, reply)?,
-        _ => return Ok(false),
+        ),
+        ("item_mut", _, Some(action)) => item_mut(map, addr, action, reply),
+        ("update_at", _, Some(action)) => update_at(map, addr, action, reply),
+        ("remove_at", None, None) if more == "" => remove_at(map, addr, reply),
+        _ => return false,
     }
-    Ok(true)
+    true
 }

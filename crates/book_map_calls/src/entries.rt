@@ -4,31 +4,26 @@ use book_text::{Reply, number, pair, put_address, word};
 use btree_ext::BTreeExt;
 use btree_map::{BTreeMap, Entry, OccupiedEntry};
 use btree_node::NodesMut;
-use std::alloc::AllocError;
 use std::mem;
 
 type Map<C> = BTreeMap<u64, u64, C>;
 
 // Shows the entry of a key: its address and key, and then what its kind has.
-fn show<C: NodesMut<u64, u64>>(
-    map: &mut Map<C>,
-    key: u64,
-    reply: &mut Reply,
-) -> Result<(), AllocError> {
+fn show<C: NodesMut<u64, u64>>(map: &mut Map<C>, key: u64, reply: &mut Reply) {
     let entry = map.entry(key);
     let (at, asked) = (entry.address(), *entry.key());
     let (inner, key, value) = match entry {
         Entry::Occupied(entry) => (entry.address(), *entry.key(), Some(*entry.get())),
         Entry::Vacant(entry) => (entry.address(), *entry.key(), None),
     };
-    put_address(reply, map.as_raw(), Some(at))?;
-    reply.number(asked)?;
+    put_address(reply, map.as_raw(), Some(at));
+    reply.number(asked);
     reply.word(if value.is_some() {
         "occupied"
     } else {
         "vacant"
-    })?;
-    put_address(reply, map.as_raw(), Some(inner))?;
+    });
+    put_address(reply, map.as_raw(), Some(inner));
     match value {
         Some(value) => reply.pair(key, value),
         None => reply.number(key),
@@ -40,7 +35,7 @@ fn step<C: NodesMut<u64, u64>>(
     entry: &mut OccupiedEntry<'_, u64, u64, C>,
     word: &str,
     reply: &mut Reply,
-) -> Result<(), AllocError> {
+) {
     match read_step(word) {
         ("key", None) => reply.number(*entry.key()),
         ("get", None) => reply.number(*entry.get()),
@@ -51,25 +46,19 @@ fn step<C: NodesMut<u64, u64>>(
         ("get_mut", action) => reply.number(write(entry.get_mut(), action)),
         _ => {
             reply.unknown();
-            Ok(())
         }
     }
 }
 
 // Does the steps of the entry of a key, if it is there.
-fn occupied<C: NodesMut<u64, u64>>(
-    map: &mut Map<C>,
-    key: u64,
-    steps: &str,
-    reply: &mut Reply,
-) -> Result<(), AllocError> {
+fn occupied<C: NodesMut<u64, u64>>(map: &mut Map<C>, key: u64, steps: &str, reply: &mut Reply) {
     let (first, last) = steps.rsplit_once(' ').unwrap_or(("", steps));
     let Entry::Occupied(mut entry) = map.entry(key) else {
         return reply.word("vacant");
     };
     for word in first.split(' ') {
         if word != "" {
-            step(&mut entry, word, reply)?;
+            step(&mut entry, word, reply);
         }
     }
     match read_step(last) {
@@ -87,12 +76,7 @@ fn occupied<C: NodesMut<u64, u64>>(
 }
 
 // Reads the key of a vacant entry, or gets it back, or shows the entry.
-fn vacant<C: NodesMut<u64, u64>>(
-    map: &mut Map<C>,
-    key: u64,
-    step: &str,
-    reply: &mut Reply,
-) -> Result<(), AllocError> {
+fn vacant<C: NodesMut<u64, u64>>(map: &mut Map<C>, key: u64, step: &str, reply: &mut Reply) {
     let Entry::Vacant(entry) = map.entry(key) else {
         return reply.word("occupied");
     };
@@ -113,7 +97,7 @@ fn insert_vacant<C: NodesMut<u64, u64>>(
     value: u64,
     action: Option<Action>,
     reply: &mut Reply,
-) -> Result<(), AllocError> {
+) {
     let Entry::Vacant(entry) = map.entry(key) else {
         return reply.word("occupied");
     };
@@ -133,7 +117,7 @@ fn or_insert<C: NodesMut<u64, u64>>(
     (key, value): (u64, u64),
     action: Option<Action>,
     reply: &mut Reply,
-) -> Result<(), AllocError> {
+) {
     let (entry, mut action) = (map.entry(key), action);
     let lent = match verb {
         "or_insert" => entry.or_insert(value),
@@ -162,7 +146,7 @@ fn insert_entry<C: NodesMut<u64, u64>>(
     map: &mut Map<C>,
     (key, value): (u64, u64),
     reply: &mut Reply,
-) -> Result<(), AllocError> {
+) {
     match map.entry(key).insert_entry(value) {
         Ok(entry) => reply.pair(*entry.key(), *entry.get()),
         Err(refused) => reply.refused_pair(refused.cause, refused.key, refused.value),
@@ -170,12 +154,7 @@ fn insert_entry<C: NodesMut<u64, u64>>(
 }
 
 // Reads the key or the value of the first entry, or of the last one, or shows or removes it.
-fn of_end<C: NodesMut<u64, u64>>(
-    map: &mut Map<C>,
-    verb: &str,
-    step: &str,
-    reply: &mut Reply,
-) -> Result<(), AllocError> {
+fn of_end<C: NodesMut<u64, u64>>(map: &mut Map<C>, verb: &str, step: &str, reply: &mut Reply) {
     let end = if verb == "first_entry" {
         map.first_entry()
     } else {
@@ -198,7 +177,6 @@ fn of_end<C: NodesMut<u64, u64>>(
         }
         _ => {
             reply.unknown();
-            Ok(())
         }
     }
 }
@@ -217,31 +195,31 @@ pub(crate) fn serve_entries<C: NodesMut<u64, u64>>(
     verb: &str,
     rest: &str,
     reply: &mut Reply,
-) -> Result<bool, AllocError> {
+) -> bool {
     let (first, more) = word(rest);
     match (verb, asked(first)) {
-        ("first_entry" | "last_entry", _) => of_end(map, verb, rest, reply)?,
-        ("entry", Some((key, _))) => show(map, key, reply)?,
-        ("insert_entry", Some(pair)) => insert_entry(map, pair, reply)?,
-        ("occupied", Some((key, _))) => occupied(map, key, more, reply)?,
+        ("first_entry" | "last_entry", _) => of_end(map, verb, rest, reply),
+        ("entry", Some((key, _))) => show(map, key, reply),
+        ("insert_entry", Some(pair)) => insert_entry(map, pair, reply),
+        ("occupied", Some((key, _))) => occupied(map, key, more, reply),
         ("vacant", Some((key, _))) => {
             let (step, by) = word(more);
             match read_step(step) {
-                ("key" | "debug" | "into_key", None) => vacant(map, key, step, reply)?,
+                ("key" | "debug" | "into_key", None) => vacant(map, key, step, reply),
                 ("insert", Some(Action::Set(value))) => insert_vacant(
                     map,
                     key,
                     value,
                     read_action(by),
                     reply,
-                )?,
-                _ => return Ok(false),
+                ),
+                _ => return false,
             }
         }
         ("or_insert" | "or_insert_with" | "or_insert_with_key" | "or_default", Some(pair)) =>
-            or_insert(map, verb, pair, read_action(more), reply)?,
-        ("and_modify", Some(pair)) => or_insert(map, verb, pair, read_action(more), reply)?,
-        _ => return Ok(false),
+            or_insert(map, verb, pair, read_action(more), reply),
+        ("and_modify", Some(pair)) => or_insert(map, verb, pair, read_action(more), reply),
+        _ => return false,
     }
-    Ok(true)
+    true
 }

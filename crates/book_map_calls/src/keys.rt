@@ -5,7 +5,6 @@ use btree_ext::BTreeExt;
 use btree_item::UpdateRefused;
 use btree_map::BTreeMap;
 use btree_node::{ClearNodes, CloneNodes, Nodes, NodesMut};
-use std::alloc::AllocError;
 
 type Map<C> = BTreeMap<u64, u64, C>;
 
@@ -17,24 +16,14 @@ pub(crate) fn copied(pair: Option<(&u64, &u64)>) -> Option<(u64, u64)> {
     }
 }
 
-fn insert<C: NodesMut<u64, u64>>(
-    map: &mut Map<C>,
-    key: u64,
-    value: u64,
-    reply: &mut Reply,
-) -> Result<(), AllocError> {
+fn insert<C: NodesMut<u64, u64>>(map: &mut Map<C>, key: u64, value: u64, reply: &mut Reply) {
     match map.insert(key, value) {
         Ok(old) => reply.value(old),
         Err(refused) => reply.refused_pair(refused.cause, refused.key, refused.value),
     }
 }
 
-fn replace<C: NodesMut<u64, u64>>(
-    map: &mut Map<C>,
-    key: u64,
-    value: u64,
-    reply: &mut Reply,
-) -> Result<(), AllocError> {
+fn replace<C: NodesMut<u64, u64>>(map: &mut Map<C>, key: u64, value: u64, reply: &mut Reply) {
     match map.replace(key, value) {
         Ok(old) => reply.found(old),
         Err(refused) => reply.refused_pair(refused.cause, refused.key, refused.value),
@@ -42,29 +31,19 @@ fn replace<C: NodesMut<u64, u64>>(
 }
 
 // Updates a value. A refused action comes back, and gives its value then.
-fn update<C: NodesMut<u64, u64>>(
-    map: &mut Map<C>,
-    key: u64,
-    action: Action,
-    reply: &mut Reply,
-) -> Result<(), AllocError> {
+fn update<C: NodesMut<u64, u64>>(map: &mut Map<C>, key: u64, action: Action, reply: &mut Reply) {
     match map.update(key, |found| (given(action, found), found)) {
         Ok(found) => reply.value(found),
         Err(UpdateRefused { cause, key, action }) => {
-            reply.refused_key(cause, key)?;
+            reply.refused_key(cause, key);
             let (given, _) = action(None);
-            reply.word("gives")?;
+            reply.word("gives");
             reply.value(given)
         }
     }
 }
 
-fn get_mut<C: NodesMut<u64, u64>>(
-    map: &mut Map<C>,
-    key: u64,
-    action: Action,
-    reply: &mut Reply,
-) -> Result<(), AllocError> {
+fn get_mut<C: NodesMut<u64, u64>>(map: &mut Map<C>, key: u64, action: Action, reply: &mut Reply) {
     match map.get_mut(&key) {
         Some(value) => reply.number(write(value, Some(action))),
         None => reply.word("none"),
@@ -76,60 +55,53 @@ fn by_key<C: NodesMut<u64, u64>>(
     verb: &str,
     key: u64,
     reply: &mut Reply,
-) -> Result<bool, AllocError> {
+) -> bool {
     match verb {
-        "get" => reply.value(map.get(&key).copied())?,
-        "contains_key" => reply.truth(map.contains_key(&key))?,
-        "get_key_value" => reply.found(copied(map.get_key_value(&key)))?,
-        "index" if map.contains_key(&key) => reply.number(map[&key])?,
-        "index" => reply.word("absent")?,
+        "get" => reply.value(map.get(&key).copied()),
+        "contains_key" => reply.truth(map.contains_key(&key)),
+        "get_key_value" => reply.found(copied(map.get_key_value(&key))),
+        "index" if map.contains_key(&key) => reply.number(map[&key]),
+        "index" => reply.word("absent"),
         "remove" => {
             let old = map.remove(&key);
-            reply.value(old)?
+            reply.value(old)
         }
         "remove_entry" => {
             let old = map.remove_entry(&key);
-            reply.found(old)?
+            reply.found(old)
         }
         "take" => {
             let old = map.take(&key);
-            reply.found(old)?
+            reply.found(old)
         }
-        _ => return Ok(false),
+        _ => return false,
     }
-    Ok(true)
+    true
 }
 
-fn list<C: NodesMut<u64, u64>>(map: &Map<C>, reply: &mut Reply) -> Result<(), AllocError> {
+fn list<C: NodesMut<u64, u64>>(map: &Map<C>, reply: &mut Reply) {
     if map.is_empty() {
         return reply.word("empty");
     }
     for (key, value) in map.iter() {
-        reply.pair(*key, *value)?;
+        reply.pair(*key, *value);
     }
-    Ok(())
 }
 
 // Gives the nodes of a clone, and looks at them.
-fn into_raw<C: CloneNodes<u64, u64> + Drop>(
-    map: &Map<C>,
-    reply: &mut Reply,
-) -> Result<(), AllocError> {
+fn into_raw<C: CloneNodes<u64, u64> + Drop>(map: &Map<C>, reply: &mut Reply) {
     let Ok(copy) = map.clone() else {
         return reply.word("no memory");
     };
     let raw = copy.into_raw();
-    reply.validity(raw.validate())?;
-    shape(reply, &raw)?;
-    reply.count(raw.len())?;
-    reply.count(raw.node_count())
+    reply.validity(raw.validate());
+    shape(reply, &raw);
+    reply.count(raw.len());
+    reply.count(raw.node_count());
 }
 
 // Gives the nodes of a clone, takes them back as a map, and adds its list.
-fn from_raw<C: CloneNodes<u64, u64> + Drop>(
-    map: &Map<C>,
-    reply: &mut Reply,
-) -> Result<(), AllocError> {
+fn from_raw<C: CloneNodes<u64, u64> + Drop>(map: &Map<C>, reply: &mut Reply) {
     let Ok(copy) = map.clone() else {
         return reply.word("no memory");
     };
@@ -139,53 +111,49 @@ fn from_raw<C: CloneNodes<u64, u64> + Drop>(
     }
 }
 
-fn ends<C: NodesMut<u64, u64>>(
-    map: &mut Map<C>,
-    verb: &str,
-    reply: &mut Reply,
-) -> Result<bool, AllocError> {
+fn ends<C: NodesMut<u64, u64>>(map: &mut Map<C>, verb: &str, reply: &mut Reply) -> bool {
     match verb {
-        "first_key_value" => reply.found(copied(map.first_key_value()))?,
-        "last_key_value" => reply.found(copied(map.last_key_value()))?,
+        "first_key_value" => reply.found(copied(map.first_key_value())),
+        "last_key_value" => reply.found(copied(map.last_key_value())),
         "pop_first" => {
             let pair = map.pop_first();
-            reply.found(pair)?
+            reply.found(pair)
         }
         "pop_last" => {
             let pair = map.pop_last();
-            reply.found(pair)?
+            reply.found(pair)
         }
-        _ => return Ok(false),
+        _ => return false,
     }
-    Ok(true)
+    true
 }
 
 fn whole<C: ClearNodes<u64, u64> + CloneNodes<u64, u64> + Drop>(
     map: &mut Map<C>,
     verb: &str,
     reply: &mut Reply,
-) -> Result<bool, AllocError> {
+) -> bool {
     match verb {
-        "len" => reply.count(map.len())?,
-        "limit" => reply.count(map.limit())?,
-        "is_empty" => reply.truth(map.is_empty())?,
-        "nodes" => reply.count(map.node_count())?,
-        "stored" => reply.count(map.store().len())?,
-        "height" => reply.count(map.height())?,
-        "list" => list(map, reply)?,
-        "debug" => reply.shown(map)?,
-        "shape" => shape(reply, map.as_raw())?,
-        "draw" => draw(reply, map.as_raw())?,
-        "validate" => reply.validity(map.validate())?,
-        "into_raw" => into_raw(map, reply)?,
-        "from_raw" => from_raw(map, reply)?,
+        "len" => reply.count(map.len()),
+        "limit" => reply.count(map.limit()),
+        "is_empty" => reply.truth(map.is_empty()),
+        "nodes" => reply.count(map.node_count()),
+        "stored" => reply.count(map.store().len()),
+        "height" => reply.count(map.height()),
+        "list" => list(map, reply),
+        "debug" => reply.shown(map),
+        "shape" => shape(reply, map.as_raw()),
+        "draw" => draw(reply, map.as_raw()),
+        "validate" => reply.validity(map.validate()),
+        "into_raw" => into_raw(map, reply),
+        "from_raw" => from_raw(map, reply),
         "clear" => {
             map.clear();
-            reply.word("ok")?
+            reply.word("ok")
         }
         _ => return ends(map, verb, reply),
     }
-    Ok(true)
+    true
 }
 
 /// Serves a call by key, or one without arguments. Returns whether the words are one.
@@ -194,7 +162,7 @@ pub(crate) fn serve_keys<C: ClearNodes<u64, u64> + CloneNodes<u64, u64> + Drop>(
     verb: &str,
     rest: &str,
     reply: &mut Reply,
-) -> Result<bool, AllocError> {
+) -> bool {
     if rest == "" {
         return whole(map, verb, reply);
     }
@@ -203,17 +171,17 @@ pub(crate) fn serve_keys<C: ClearNodes<u64, u64> + CloneNodes<u64, u64> + Drop>(
     }
     if let Some((key, value)) = pair(rest) {
         match verb {
-            "insert" => insert(map, key, value, reply)?,
-            "replace" => replace(map, key, value, reply)?,
-            _ => return Ok(false),
+            "insert" => insert(map, key, value, reply),
+            "replace" => replace(map, key, value, reply),
+            _ => return false,
         }
-        return Ok(true);
+        return true;
     }
     let (key, by) = word(rest);
     match (verb, number(key), read_action(by)) {
-        ("update", Some(key), Some(action)) => update(map, key, action, reply)?,
-        ("get_mut", Some(key), Some(action)) => get_mut(map, key, action, reply)?,
-        _ => return Ok(false),
+        ("update", Some(key), Some(action)) => update(map, key, action, reply),
+        ("get_mut", Some(key), Some(action)) => get_mut(map, key, action, reply),
+        _ => return false,
     }
-    Ok(true)
+    true
 }

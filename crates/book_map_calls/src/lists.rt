@@ -3,43 +3,42 @@ ghost use Rattle.std.specs.Iterator.{IsFinite};
 
 use crate::walks::{Yielded, put};
 use book_text::{Reply, number, pair};
-use std::alloc::{AllocError, Global};
+use std::alloc::Global;
 
-/// Returns the pairs of a text, or none if a word is not one. It fails if memory for them is refused.
-pub fn pairs(alloc: Global, text: &str) -> Result<Option<Vec<(u64, u64)>>, AllocError> {
+/// Returns the pairs of a text, or none if a word is not one, or memory for them is refused.
+pub fn pairs(alloc: Global, text: &str, reply: &mut Reply) -> Option<Vec<(u64, u64)>> {
     let mut pairs: Vec<(u64, u64)> = Vec::new(alloc);
     for word in text.split(' ') {
-        match pair(word) {
-            Some(pair) => pairs.push(pair)?,
-            None => return Ok(None),
+        if pairs.push(pair(word)?).is_err() {
+            reply.run_out();
+            return None;
         }
     }
-    Ok(Some(pairs))
+    Some(pairs)
 }
 
-/// Returns the numbers of a text, or none if a word is not one. It fails if memory for them is refused.
-pub fn numbers(alloc: Global, text: &str) -> Result<Option<Vec<u64>>, AllocError> {
+/// Returns the numbers of a text, or none if a word is not one, or memory for them is refused.
+pub fn numbers(alloc: Global, text: &str, reply: &mut Reply) -> Option<Vec<u64>> {
     let mut numbers: Vec<u64> = Vec::new(alloc);
     for word in text.split(' ') {
-        match number(word) {
-            Some(number) => numbers.push(number)?,
-            None => return Ok(None),
+        if numbers.push(number(word)?).is_err() {
+            reply.run_out();
+            return None;
         }
     }
-    Ok(Some(numbers))
+    Some(numbers)
 }
 
 /// Adds what is left of an iterator.
-pub fn put_left<I: Iterator>(source: &mut I, reply: &mut Reply) -> Result<(), AllocError>
+pub fn put_left<I: Iterator>(source: &mut I, reply: &mut Reply)
 where
     I::Item: Yielded,
     requires can { (state : I) → I.can_next state }
     requires ends { IsFinite (I.remaining source.old) }
 {
-    reply.word("left")?;
-    put(source.next(), reply)?;
+    reply.word("left");
+    put(source.next(), reply);
     while let Some(item) = source.next() {
-        item.put(reply)?;
+        item.put(reply);
     }
-    Ok(())
 }

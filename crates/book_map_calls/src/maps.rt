@@ -10,7 +10,7 @@ use crate::walks::serve_walks;
 use book_text::{Reply, word};
 use btree_map::BTreeMap;
 use btree_node::{ClearNodes, CloneNodes, NodesMut};
-use std::alloc::{AllocError, Global};
+use std::alloc::Global;
 
 /// Does the call of a map, or of it and another one, that words name, and adds the reply. Returns whether the words are a call. Maps over stores
 /// of their own kind and of another are made from the origins. It fails if memory for the reply is refused.
@@ -24,20 +24,18 @@ pub fn serve_map<
     other: &mut BTreeMap<u64, u64, C>,
     words: &str,
     reply: &mut Reply,
-) -> Result<bool, AllocError>
+) -> bool
 where
     C::Origin: Copy,
     D::Origin: Copy,
 {
     let (verb, rest) = word(words);
-    Ok(
-        serve_keys(map, verb, rest, reply)?
-            || serve_entries(map, verb, rest, reply)?
-            || serve_addresses(map, verb, rest, reply)?
-            || serve_edits(map, verb, rest, reply)?
-            || serve_queries(map, verb, rest, reply)?
-            || serve_walks(map, verb, rest, reply)?
-            || serve_cursors(map, verb, rest, reply)?
-            || serve_several::<C, D>(alloc, origins, map, other, verb, rest, reply)?,
-    )
+    serve_keys(map, verb, rest, reply)
+        || serve_entries(map, verb, rest, reply)
+        || serve_addresses(map, verb, rest, reply)
+        || serve_edits(map, verb, rest, reply)
+        || serve_queries(map, verb, rest, reply)
+        || serve_walks(map, verb, rest, reply)
+        || serve_cursors(map, verb, rest, reply)
+        || serve_several::<C, D>(alloc, origins, map, other, verb, rest, reply)
 }

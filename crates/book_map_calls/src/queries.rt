@@ -8,7 +8,6 @@ use btree_ext::BTreeExt;
 use btree_item::{After, Before, Query};
 use btree_map::BTreeMap;
 use btree_node::NodesMut;
-use std::alloc::AllocError;
 
 type Map<C> = BTreeMap<u64, u64, C>;
 
@@ -36,7 +35,7 @@ fn get_mut_by<Q: Query<u64>, C: NodesMut<u64, u64>>(
     query: &Q,
     action: Action,
     reply: &mut Reply,
-) -> Result<(), AllocError> {
+) {
     match map.get_mut_by(query) {
         Some(value) => reply.number(write(value, Some(action))),
         None => reply.word("none"),
@@ -49,24 +48,24 @@ fn by_query<Q: Query<u64>, C: NodesMut<u64, u64>>(
     query: &Q,
     action: Option<Action>,
     reply: &mut Reply,
-) -> Result<bool, AllocError> {
+) -> bool {
     match (verb, action) {
-        ("get_by", None) => reply.value(map.get_by(query).copied())?,
-        ("contains_key_by", None) => reply.truth(map.contains_key_by(query))?,
-        ("get_key_value_by", None) => reply.found(copied(map.get_key_value_by(query)))?,
-        ("address_by", None) => put_search(map, map.address_by(query), reply)?,
-        ("get_mut_by", Some(action)) => get_mut_by(map, query, action, reply)?,
+        ("get_by", None) => reply.value(map.get_by(query).copied()),
+        ("contains_key_by", None) => reply.truth(map.contains_key_by(query)),
+        ("get_key_value_by", None) => reply.found(copied(map.get_key_value_by(query))),
+        ("address_by", None) => put_search(map, map.address_by(query), reply),
+        ("get_mut_by", Some(action)) => get_mut_by(map, query, action, reply),
         ("remove_by", None) => {
             let old = map.remove_by(query);
-            reply.value(old)?
+            reply.value(old)
         }
         ("remove_entry_by", None) => {
             let old = map.remove_entry_by(query);
-            reply.found(old)?
+            reply.found(old)
         }
-        _ => return Ok(false),
+        _ => return false,
     }
-    Ok(true)
+    true
 }
 
 // Takes items from both ends of a range between two queries.
@@ -76,7 +75,7 @@ fn range_to<Q: Query<u64>, C: NodesMut<u64, u64>>(
     end: Spot,
     ends: &str,
     reply: &mut Reply,
-) -> Result<(), AllocError> {
+) {
     match end {
         Spot::At(key) => walk(map.range_by(start, &key), ends, reply),
         Spot::Before(key) => walk(map.range_by(start, &Before(&key)), ends, reply),
@@ -89,17 +88,17 @@ fn range_by<C: NodesMut<u64, u64>>(
     start: Spot,
     words: &str,
     reply: &mut Reply,
-) -> Result<bool, AllocError> {
+) -> bool {
     let (end, ends) = word(words);
     let Some(end) = read_spot(end) else {
-        return Ok(false);
+        return false;
     };
     match start {
-        Spot::At(key) => range_to(map, &key, end, ends, reply)?,
-        Spot::Before(key) => range_to(map, &Before(&key), end, ends, reply)?,
-        Spot::After(key) => range_to(map, &After(&key), end, ends, reply)?,
+        Spot::At(key) => range_to(map, &key, end, ends, reply),
+        Spot::Before(key) => range_to(map, &Before(&key), end, ends, reply),
+        Spot::After(key) => range_to(map, &After(&key), end, ends, reply),
     }
-    Ok(true)
+    true
 }
 
 /// Serves a call by a query. Returns whether the words are one.
@@ -108,10 +107,10 @@ pub(crate) fn serve_queries<C: NodesMut<u64, u64>>(
     verb: &str,
     rest: &str,
     reply: &mut Reply,
-) -> Result<bool, AllocError> {
+) -> bool {
     let (first, rest) = word(rest);
     let Some(spot) = read_spot(first) else {
-        return Ok(false);
+        return false;
     };
     if verb == "range_by" {
         return range_by(map, spot, rest, reply);

@@ -4,35 +4,27 @@ use book_text::{Reply, draw, number};
 use btree_ext::BTreeExt;
 use btree_map::BTreeMap;
 use btree_node::{CloneNodes, NodesMut};
-use std::alloc::{AllocError, Global};
+use std::alloc::Global;
 use std::hash::{DefaultHasher, Hash, Hasher};
 
 type Map<C> = BTreeMap<u64, u64, C>;
 
-fn extend<C: NodesMut<u64, u64>>(
-    map: &mut Map<C>,
-    pairs: &[(u64, u64)],
-    reply: &mut Reply,
-) -> Result<(), AllocError> {
+fn extend<C: NodesMut<u64, u64>>(map: &mut Map<C>, pairs: &[(u64, u64)], reply: &mut Reply) {
     let mut source = pairs.iter().copied();
     match map.extend(&mut source) {
-        Ok(()) => reply.word("ok")?,
-        Err(refused) => reply.refused_pair(refused.cause, refused.key, refused.value)?,
+        Ok(()) => reply.word("ok"),
+        Err(refused) => reply.refused_pair(refused.cause, refused.key, refused.value),
     }
-    put_left(&mut source, reply)
+    put_left(&mut source, reply);
 }
 
-fn extend_copied<C: NodesMut<u64, u64>>(
-    map: &mut Map<C>,
-    other: &Map<C>,
-    reply: &mut Reply,
-) -> Result<(), AllocError> {
+fn extend_copied<C: NodesMut<u64, u64>>(map: &mut Map<C>, other: &Map<C>, reply: &mut Reply) {
     let mut source = other.iter();
     match map.extend_copied(&mut source) {
-        Ok(()) => reply.word("ok")?,
-        Err(refused) => reply.refused_pair(refused.cause, refused.key, refused.value)?,
+        Ok(()) => reply.word("ok"),
+        Err(refused) => reply.refused_pair(refused.cause, refused.key, refused.value),
     }
-    put_left(&mut source, reply)
+    put_left(&mut source, reply);
 }
 
 fn from_iter<C: NodesMut<u64, u64> + Drop>(
@@ -40,7 +32,7 @@ fn from_iter<C: NodesMut<u64, u64> + Drop>(
     origin: C::Origin,
     pairs: &[(u64, u64)],
     reply: &mut Reply,
-) -> Result<(), AllocError>
+)
 where
     C::Origin: Copy,
 {
@@ -48,14 +40,14 @@ where
     match BTreeMap::<u64, u64, C>::from_iter(origin, &mut source) {
         Ok(made) => {
             *map = made;
-            reply.word("ok")?
+            reply.word("ok")
         }
         Err((made, refused)) => {
             *map = made;
-            reply.refused_pair(refused.cause, refused.key, refused.value)?
+            reply.refused_pair(refused.cause, refused.key, refused.value)
         }
     }
-    put_left(&mut source, reply)
+    put_left(&mut source, reply);
 }
 
 // Makes a map an empty one with a limit. Returns whether the word is a number.
@@ -64,34 +56,30 @@ fn limited<C: NodesMut<u64, u64> + Drop>(
     origin: C::Origin,
     word: &str,
     reply: &mut Reply,
-) -> Result<bool, AllocError>
+) -> bool
 where
     C::Origin: Copy,
 {
     let Some(limit) = number(word) else {
-        return Ok(false);
+        return false;
     };
     *map = BTreeMap::with_limit(origin, limit as usize);
-    reply.word("ok")?;
-    Ok(true)
+    reply.word("ok");
+    true
 }
 
 // Adds what is left of a map.
-fn put_rest<C: NodesMut<u64, u64>>(map: &Map<C>, reply: &mut Reply) -> Result<(), AllocError> {
+fn put_rest<C: NodesMut<u64, u64>>(map: &Map<C>, reply: &mut Reply) {
     let mut source = map.iter();
-    put_left(&mut source, reply)
+    put_left(&mut source, reply);
 }
 
-fn append<C: NodesMut<u64, u64>>(
-    map: &mut Map<C>,
-    other: &mut Map<C>,
-    reply: &mut Reply,
-) -> Result<(), AllocError> {
+fn append<C: NodesMut<u64, u64>>(map: &mut Map<C>, other: &mut Map<C>, reply: &mut Reply) {
     match map.append(other) {
-        Ok(()) => reply.word("ok")?,
-        Err(refused) => reply.refused_pair(refused.cause, refused.key, refused.value)?,
+        Ok(()) => reply.word("ok"),
+        Err(refused) => reply.refused_pair(refused.cause, refused.key, refused.value),
     }
-    put_rest(other, reply)
+    put_rest(other, reply);
 }
 
 // Makes a map the pairs of the other one from a key on.
@@ -101,7 +89,7 @@ fn split_off<C: NodesMut<u64, u64> + Drop>(
     other: &mut Map<C>,
     key: u64,
     reply: &mut Reply,
-) -> Result<(), AllocError> {
+) {
     match other.split_off(&key, C::empty(origin)) {
         Ok(moved) => {
             *map = moved;
@@ -115,11 +103,7 @@ fn split_off<C: NodesMut<u64, u64> + Drop>(
 }
 
 // Makes a map a clone of the other one.
-fn clone<C: CloneNodes<u64, u64> + Drop>(
-    map: &mut Map<C>,
-    other: &Map<C>,
-    reply: &mut Reply,
-) -> Result<(), AllocError> {
+fn clone<C: CloneNodes<u64, u64> + Drop>(map: &mut Map<C>, other: &Map<C>, reply: &mut Reply) {
     match other.clone() {
         Ok(copy) => {
             *map = copy;
@@ -135,7 +119,7 @@ fn compare<C: NodesMut<u64, u64>, D: NodesMut<u64, u64> + Drop>(
     other: &Map<C>,
     origin: D::Origin,
     reply: &mut Reply,
-) -> Result<(), AllocError>
+)
 where
     D::Origin: Copy,
 {
@@ -143,13 +127,13 @@ where
     if copy.extend_copied(&mut other.iter()).is_err() {
         return reply.word("no memory");
     }
-    reply.truth(*map == *other)?;
-    reply.order(map.cmp(other))?;
+    reply.truth(*map == *other);
+    reply.order(map.cmp(other));
     if let Some(order) = map.partial_cmp(other) {
-        reply.order(order)?;
+        reply.order(order);
     }
-    reply.truth(map.same_items(&copy))?;
-    reply.order(map.compare_items(&copy))
+    reply.truth(map.same_items(&copy));
+    reply.order(map.compare_items(&copy));
 }
 
 fn hash_of<C: NodesMut<u64, u64>>(map: &Map<C>) -> u64 {
@@ -169,25 +153,20 @@ fn plain_hash_of<C: NodesMut<u64, u64>>(map: &Map<C>) -> u64 {
 }
 
 /// Adds everything that a map is: its nodes, with their numbers, and its pairs.
-pub fn put_map<C: NodesMut<u64, u64>>(map: &Map<C>, reply: &mut Reply) -> Result<(), AllocError> {
-    draw(reply, map.as_raw())?;
-    reply.count(map.len())?;
+pub fn put_map<C: NodesMut<u64, u64>>(map: &Map<C>, reply: &mut Reply) {
+    draw(reply, map.as_raw());
+    reply.count(map.len());
     for (key, value) in map.iter() {
-        reply.pair(*key, *value)?;
+        reply.pair(*key, *value);
     }
-    Ok(())
 }
 
 // Returns whether two maps have the same nodes with the same numbers, and the same pairs.
-fn have_same_nodes<C: NodesMut<u64, u64>>(
-    alloc: Global,
-    map: &Map<C>,
-    other: &Map<C>,
-) -> Result<bool, AllocError> {
+fn have_same_nodes<C: NodesMut<u64, u64>>(alloc: Global, map: &Map<C>, other: &Map<C>) -> bool {
     let (mut first, mut second) = (Reply::new(alloc), Reply::new(alloc));
-    put_map(map, &mut first)?;
-    put_map(other, &mut second)?;
-    Ok(first.as_str() == second.as_str())
+    put_map(map, &mut first);
+    put_map(other, &mut second);
+    first.as_str() == second.as_str()
 }
 
 fn of_two<C: CloneNodes<u64, u64> + Drop, D: NodesMut<u64, u64> + Drop>(
@@ -197,22 +176,22 @@ fn of_two<C: CloneNodes<u64, u64> + Drop, D: NodesMut<u64, u64> + Drop>(
     other: &mut Map<C>,
     verb: &str,
     reply: &mut Reply,
-) -> Result<bool, AllocError>
+) -> bool
 where
     D::Origin: Copy,
 {
     match verb {
-        "append" => append(map, other, reply)?,
-        "clone" => clone(map, other, reply)?,
-        "extend_copied" => extend_copied(map, other, reply)?,
-        "compare" => compare::<C, D>(map, other, origin, reply)?,
-        "equals" => reply.truth(*map == *other)?,
-        "same_hash" => reply.truth(hash_of(map) == hash_of(other))?,
-        "plain_hash" => reply.truth(hash_of(map) == plain_hash_of(map))?,
-        "same_nodes" => reply.truth(have_same_nodes(alloc, map, other)?)?,
-        _ => return Ok(false),
+        "append" => append(map, other, reply),
+        "clone" => clone(map, other, reply),
+        "extend_copied" => extend_copied(map, other, reply),
+        "compare" => compare::<C, D>(map, other, origin, reply),
+        "equals" => reply.truth(*map == *other),
+        "same_hash" => reply.truth(hash_of(map) == hash_of(other)),
+        "plain_hash" => reply.truth(hash_of(map) == plain_hash_of(map)),
+        "same_nodes" => reply.truth(have_same_nodes(alloc, map, other)),
+        _ => return false,
     }
-    Ok(true)
+    true
 }
 
 /// Serves a call of two maps, or of a list of pairs. Returns whether the words are one.
@@ -224,7 +203,7 @@ pub(crate) fn serve_several<C: CloneNodes<u64, u64> + Drop, D: NodesMut<u64, u64
     verb: &str,
     rest: &str,
     reply: &mut Reply,
-) -> Result<bool, AllocError>
+) -> bool
 where
     C::Origin: Copy,
     D::Origin: Copy,
@@ -235,22 +214,22 @@ where
     if verb == "split_off"
         && let Some(key) = number(rest)
     {
-        split_off(map, origins.0, other, key, reply)?;
-        return Ok(true);
+        split_off(map, origins.0, other, key, reply);
+        return true;
     }
     if verb == "limited" {
         return limited(map, origins.0, rest, reply);
     }
     if verb != "extend" && verb != "from_iter" {
-        return Ok(false);
+        return false;
     }
-    let Some(pairs) = pairs(alloc, rest)? else {
-        return Ok(false);
+    let Some(pairs) = pairs(alloc, rest, reply) else {
+        return false;
     };
     if verb == "extend" {
-        extend(map, pairs.as_slice(), reply)?;
+        extend(map, pairs.as_slice(), reply);
     } else {
-        from_iter(map, origins.0, pairs.as_slice(), reply)?;
+        from_iter(map, origins.0, pairs.as_slice(), reply);
     }
-    Ok(true)
+    true
 }

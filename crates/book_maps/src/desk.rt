@@ -9,7 +9,7 @@ use book_text::{Desk, Desks, Ending, Reply, serve, word};
 use btree_map::BTreeMap;
 use btree_node::{ClearNodes, CloneNodes, NodesMut};
 use btree_set::BTreeSet;
-use std::alloc::{AllocError, Global};
+use std::alloc::Global;
 use std::io;
 use test_support::Refusing;
 
@@ -51,15 +51,13 @@ fn serve_pair<C: ClearNodes<u64, u64> + CloneNodes<u64, u64> + Drop, E: NodesMut
     other: &mut BTreeMap<u64, u64, C>,
     words: &str,
     reply: &mut Reply,
-) -> Result<bool, AllocError>
+) -> bool
 where
     C::Origin: Copy,
     E::Origin: Copy,
 {
-    Ok(
-        serve_map::<C, E>(alloc, origins, map, other, words, reply)?
-            || serve_loops(alloc, map, other, words, reply)?,
-    )
+    serve_map::<C, E>(alloc, origins, map, other, words, reply)
+        || serve_loops(alloc, map, other, words, reply)
 }
 
 fn serve_set<D: ClearNodes<u64, ()> + CloneNodes<u64, ()> + Drop, F: NodesMut<u64, ()> + Drop>(
@@ -69,16 +67,14 @@ fn serve_set<D: ClearNodes<u64, ()> + CloneNodes<u64, ()> + Drop, F: NodesMut<u6
     other: &mut BTreeSet<u64, D>,
     words: &str,
     reply: &mut Reply,
-) -> Result<bool, AllocError>
+) -> bool
 where
     D::Origin: Copy,
     F::Origin: Copy,
 {
     let (verb, rest) = word(words);
-    Ok(
-        serve_sets(set, verb, rest, reply)?
-            || serve_merges::<D, F>(alloc, origins, set, other, verb, rest, reply)?,
-    )
+    serve_sets(set, verb, rest, reply)
+        || serve_merges::<D, F>(alloc, origins, set, other, verb, rest, reply)
 }
 
 impl<
@@ -93,7 +89,7 @@ where
     E::Origin: Copy,
     F::Origin: Copy,
 {
-    fn call(&mut self, words: &str, reply: &mut Reply) -> Result<bool, AllocError> {
+    fn call(&mut self, words: &str, reply: &mut Reply) -> bool {
         let (name, rest) = word(words);
         let (alloc, maps, sets) = (self.alloc, self.maps, self.sets);
         match name {
@@ -102,43 +98,43 @@ where
             "p" => serve_set::<D, F>(alloc, sets, &mut self.p, &mut self.q, rest, reply),
             "q" => serve_set::<D, F>(alloc, sets, &mut self.q, &mut self.p, rest, reply),
             "help" => {
-                help(reply)?;
-                Ok(true)
+                help(reply);
+                true
             }
             "new" => {
                 self.a = BTreeMap::new(maps.0);
                 self.b = BTreeMap::new(maps.0);
                 self.p = BTreeSet::new(sets.0);
                 self.q = BTreeSet::new(sets.0);
-                reply.word("ok")?;
-                Ok(true)
+                reply.word("ok");
+                true
             }
-            _ => Ok(false),
+            _ => false,
         }
     }
 
-    fn content(&self, reply: &mut Reply) -> Result<(), AllocError> {
-        put_map(&self.a, reply)?;
-        reply.count(self.a.limit())?;
-        put_map(&self.b, reply)?;
-        reply.count(self.b.limit())?;
-        put_set(&self.p, reply)?;
-        reply.count(self.p.node_count())?;
-        put_set(&self.q, reply)?;
-        reply.count(self.q.node_count())
+    fn content(&self, reply: &mut Reply) {
+        put_map(&self.a, reply);
+        reply.count(self.a.limit());
+        put_map(&self.b, reply);
+        reply.count(self.b.limit());
+        put_set(&self.p, reply);
+        reply.count(self.p.node_count());
+        put_set(&self.q, reply);
+        reply.count(self.q.node_count());
     }
 }
 
 impl<D: Desk + Drop> Desk for Watched<'_, D> {
-    fn call(&mut self, words: &str, reply: &mut Reply) -> Result<bool, AllocError> {
+    fn call(&mut self, words: &str, reply: &mut Reply) -> bool {
         match words.strip_prefix("in_turn ") {
             Some(rest) => in_turn(self.alloc, self.memory, &mut self.desk, rest, reply),
             None => self.desk.call(words, reply),
         }
     }
 
-    fn content(&self, reply: &mut Reply) -> Result<(), AllocError> {
-        self.desk.content(reply)
+    fn content(&self, reply: &mut Reply) {
+        self.desk.content(reply);
     }
 }
 

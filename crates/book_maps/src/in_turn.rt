@@ -1,6 +1,6 @@
 //! Calls that keep what came before a refused element, while each node and each growth of the memory is refused in turn.
 use book_text::{Desk, Reply, number, word};
-use std::alloc::{AllocError, Global};
+use std::alloc::Global;
 use test_support::Refusing;
 
 // The most nodes and growths of one call that are refused in turn.
@@ -25,16 +25,15 @@ fn other_of(name: &str) -> &'static str {
 }
 
 // Adds the numbers from one to before another.
-fn put_numbers(text: &mut Reply, name: &str, from: u64, to: u64) -> Result<(), AllocError> {
+fn put_numbers(text: &mut Reply, name: &str, from: u64, to: u64) {
     let is_map = name == "a" || name == "b";
     for number in from..to {
         if is_map {
-            text.pair(number, number.wrapping_mul(10))?;
+            text.pair(number, number.wrapping_mul(10));
         } else {
-            text.number(number)?;
+            text.number(number);
         }
     }
-    Ok(())
 }
 
 // Does a call with the numbers from one to before another, and returns its reply, which is empty if it is no call.
@@ -45,38 +44,33 @@ fn call_with<D: Desk>(
     verb: &str,
     from: u64,
     to: u64,
-) -> Result<Reply, AllocError> {
+) -> Reply {
     let (mut line, mut said) = (Reply::new(alloc), Reply::new(alloc));
-    line.word(name)?;
-    line.word(verb)?;
-    put_numbers(&mut line, name, from, to)?;
-    if !desk.call(line.as_str(), &mut said)? {
+    line.word(name);
+    line.word(verb);
+    put_numbers(&mut line, name, from, to);
+    if !desk.call(line.as_str(), &mut said) {
         said.clear();
     }
-    Ok(said)
+    said.note(&line);
+    said
 }
 
 // Makes the desk new, and puts there what the call takes its elements from.
-fn set_up<D: Desk>(alloc: Global, desk: &mut D, call: &Call<'_>) -> Result<(), AllocError> {
+fn set_up<D: Desk>(alloc: Global, desk: &mut D, call: &Call<'_>) {
     let mut said = Reply::new(alloc);
-    desk.call("new", &mut said)?;
+    desk.call("new", &mut said);
     if call.verb == "append" {
-        call_with(alloc, desk, call.name, "extend", 0, 1)?;
-        call_with(alloc, desk, other_of(call.name), "extend", 1, call.count)?;
+        call_with(alloc, desk, call.name, "extend", 0, 1);
+        call_with(alloc, desk, other_of(call.name), "extend", 1, call.count);
     }
     if call.verb == "extend_copied" {
-        call_with(alloc, desk, other_of(call.name), "extend", 0, call.count)?;
+        call_with(alloc, desk, other_of(call.name), "extend", 0, call.count);
     }
-    Ok(())
 }
 
 // Does the call, or goes on with what is left after a number.
-fn call_from<D: Desk>(
-    alloc: Global,
-    desk: &mut D,
-    call: &Call<'_>,
-    from: u64,
-) -> Result<Reply, AllocError> {
+fn call_from<D: Desk>(alloc: Global, desk: &mut D, call: &Call<'_>, from: u64) -> Reply {
     match call.verb {
         "append" => call_with(alloc, desk, call.name, "append", 0, 0),
         "extend_copied" if from == 0 => call_with(alloc, desk, call.name, "extend_copied", 0, 0),
@@ -86,13 +80,7 @@ fn call_from<D: Desk>(
 }
 
 // Inserts the numbers from one to before another one by one. What is appended is taken from the other map or set.
-fn insert_each<D: Desk>(
-    alloc: Global,
-    desk: &mut D,
-    call: &Call<'_>,
-    from: u64,
-    to: u64,
-) -> Result<(), AllocError> {
+fn insert_each<D: Desk>(alloc: Global, desk: &mut D, call: &Call<'_>, from: u64, to: u64) {
     for number in from..to {
         call_with(
             alloc,
@@ -101,18 +89,17 @@ fn insert_each<D: Desk>(
             "insert",
             number,
             number.wrapping_add(1),
-        )?;
+        );
         if call.verb == "append" {
-            call_with(alloc, desk, other_of(call.name), "pop_first", 0, 0)?;
+            call_with(alloc, desk, other_of(call.name), "pop_first", 0, 0);
         }
     }
-    Ok(())
 }
 
-fn content<D: Desk>(alloc: Global, desk: &D) -> Result<Reply, AllocError> {
+fn content<D: Desk>(alloc: Global, desk: &D) -> Reply {
     let mut content = Reply::new(alloc);
-    desk.content(&mut content)?;
-    Ok(content)
+    desk.content(&mut content);
+    content
 }
 
 // Returns the number that a reply names as refused.
@@ -125,38 +112,28 @@ fn refused_number(said: &str) -> Option<u64> {
 }
 
 // Returns whether a reply names one number as refused, and those after it as left.
-fn names_rest(
-    alloc: Global,
-    said: &str,
-    call: &Call<'_>,
-    refused: u64,
-) -> Result<bool, AllocError> {
+fn names_rest(alloc: Global, said: &str, call: &Call<'_>, refused: u64) -> bool {
     let mut expected = Reply::new(alloc);
-    expected.word("refused store")?;
-    put_numbers(&mut expected, call.name, refused, refused.wrapping_add(1))?;
-    expected.word("left")?;
+    expected.word("refused store");
+    put_numbers(&mut expected, call.name, refused, refused.wrapping_add(1));
+    expected.word("left");
     if refused.wrapping_add(1) < call.count {
         put_numbers(
             &mut expected,
             call.name,
             refused.wrapping_add(1),
             call.count,
-        )?;
+        );
     } else {
-        expected.word("none")?;
+        expected.word("none");
     }
-    Ok(said == expected.as_str())
+    said == expected.as_str()
 }
 
 // Looks at a call that was refused: those before the refused number are there as if they had been inserted one by one, and the others are
 // taken afterwards.
-fn is_kept<D: Desk>(
-    alloc: Global,
-    desk: &mut D,
-    call: &Call<'_>,
-    refused: u64,
-) -> Result<bool, AllocError> {
-    let stopped = content(alloc, desk)?;
+fn is_kept<D: Desk>(alloc: Global, desk: &mut D, call: &Call<'_>, refused: u64) -> bool {
+    let stopped = content(alloc, desk);
     call_with(
         alloc,
         desk,
@@ -164,16 +141,16 @@ fn is_kept<D: Desk>(
         "insert",
         refused,
         refused.wrapping_add(1),
-    )?;
+    );
     if refused.wrapping_add(1) < call.count {
-        call_from(alloc, desk, call, refused.wrapping_add(1))?;
+        call_from(alloc, desk, call, refused.wrapping_add(1));
     }
-    let whole = content(alloc, desk)?;
-    set_up(alloc, desk, call)?;
-    insert_each(alloc, desk, call, 0, refused)?;
-    let plain = content(alloc, desk)?;
-    insert_each(alloc, desk, call, refused, call.count)?;
-    Ok(stopped.as_str() == plain.as_str() && whole.as_str() == content(alloc, desk)?.as_str())
+    let whole = content(alloc, desk);
+    set_up(alloc, desk, call);
+    insert_each(alloc, desk, call, 0, refused);
+    let plain = content(alloc, desk);
+    insert_each(alloc, desk, call, refused, call.count);
+    stopped.as_str() == plain.as_str() && whole.as_str() == content(alloc, desk).as_str()
 }
 
 /// Does a call as `a extend 44`, of the numbers below a count, on a new desk while the first node or growth is refused, then the second,
@@ -186,36 +163,39 @@ pub(crate) fn in_turn<D: Desk>(
     desk: &mut D,
     words: &str,
     reply: &mut Reply,
-) -> Result<bool, AllocError> {
+) -> bool {
     let (name, rest) = word(words);
     let (verb, count) = word(rest);
     let Some(count) = number(count) else {
-        return Ok(false);
+        return false;
     };
     let call = Call { name, verb, count };
     for at in 1..MOST {
-        set_up(alloc, desk, &call)?;
+        set_up(alloc, desk, &call);
         memory.refuse(at);
-        let said = call_from(alloc, desk, &call, 0)?;
+        let said = call_from(alloc, desk, &call, 0);
         let was_refused = memory.refuses() == 0;
         memory.refuse(0);
+        if reply.note(&said) {
+            return true;
+        }
         let is_kept = match refused_number(said.as_str()) {
             Some(refused) => was_refused
-                && names_rest(alloc, said.as_str(), &call, refused)?
-                && is_kept(alloc, desk, &call, refused)?,
+                && names_rest(alloc, said.as_str(), &call, refused)
+                && is_kept(alloc, desk, &call, refused),
             None if was_refused => false,
             None => {
-                reply.word("kept")?;
-                reply.number(at.wrapping_sub(1))?;
-                reply.word(said.as_str())?;
-                return Ok(said.as_str() != "");
+                reply.word("kept");
+                reply.number(at.wrapping_sub(1));
+                reply.word(said.as_str());
+                return said.as_str() != "";
             }
         };
         if !is_kept {
-            reply.word("changed")?;
-            reply.word(said.as_str())?;
-            return Ok(true);
+            reply.word("changed");
+            reply.word(said.as_str());
+            return true;
         }
     }
-    Ok(false)
+    false
 }

@@ -13,19 +13,14 @@ type Map<C> = BTreeMap<u64, u64, C>;
 type List = collections::BTreeMap<u64, u64>;
 
 // Inserts this many keys, each so far after the one before, modulo their number, with 10 times the keys as values.
-fn fill<C: NodesMut<u64, u64>>(
-    map: &mut Map<C>,
-    count: u64,
-    step: u64,
-    reply: &mut Reply,
-) -> Result<(), AllocError> {
+fn fill<C: NodesMut<u64, u64>>(map: &mut Map<C>, count: u64, step: u64, reply: &mut Reply) {
     for index in 0..count {
         let key = index.wrapping_mul(step) % count;
         if let Err(refused) = map.insert(key, key.wrapping_mul(10)) {
             return reply.refused_pair(refused.cause, refused.key, refused.value);
         }
     }
-    reply.word("ok")
+    reply.word("ok");
 }
 
 // Inserts pairs. Returns whether all were taken, and the map was well formed after each.
@@ -187,7 +182,7 @@ fn neighbours_of<C: NodesMut<u64, u64>>(map: &Map<C>, key: &u64) -> Option<u64> 
 }
 
 // Adds how many neighbours all items have, each of which leads back.
-fn neighbours<C: NodesMut<u64, u64>>(map: &Map<C>, reply: &mut Reply) -> Result<(), AllocError> {
+fn neighbours<C: NodesMut<u64, u64>>(map: &Map<C>, reply: &mut Reply) {
     let mut neighbours = 0u64;
     for (key, _value) in map.iter() {
         match neighbours_of(map, key) {
@@ -195,7 +190,7 @@ fn neighbours<C: NodesMut<u64, u64>>(map: &Map<C>, reply: &mut Reply) -> Result<
             None => return reply.word("lost"),
         }
     }
-    reply.number(neighbours)
+    reply.number(neighbours);
 }
 
 // Takes so many pairs from the front of an iterator, and the others from its back. Returns whether all are those of `fill`, in order.
@@ -336,6 +331,19 @@ fn over_pairs<C: ClearNodes<u64, u64>>(
     }))
 }
 
+// Does a loop over the pairs of a text.
+fn over_words<C: ClearNodes<u64, u64>>(
+    alloc: Global,
+    map: &mut Map<C>,
+    (verb, words): (&str, &str),
+    order: (u64, u64),
+    reply: &mut Reply,
+) -> Option<bool> {
+    let pairs = pairs(alloc, words, reply)?;
+    let done = over_pairs(alloc, map, verb, order, pairs.as_slice());
+    reply.granted(done)?
+}
+
 /// Serves a loop over pairs. Returns whether the words are one.
 pub(crate) fn serve_loops<C: ClearNodes<u64, u64>>(
     alloc: Global,
@@ -343,36 +351,31 @@ pub(crate) fn serve_loops<C: ClearNodes<u64, u64>>(
     other: &Map<C>,
     words: &str,
     reply: &mut Reply,
-) -> Result<bool, AllocError> {
+) -> bool {
     let (verb, rest) = word(words);
     let (first, more) = word(rest);
     let (second, more) = word(more);
     let is_right = match (verb, number(first), number(second)) {
         ("neighbours", None, None) => {
-            neighbours(map, reply)?;
-            return Ok(true);
+            neighbours(map, reply);
+            return true;
         }
         ("fill", Some(count), Some(step)) => {
-            fill(map, count, step, reply)?;
-            return Ok(true);
+            fill(map, count, step, reply);
+            return true;
         }
         ("cut", Some(place), Some(count)) => Some(cut(map, other, place, count)),
         ("meets", Some(place), None) => Some(meets(map, place)),
         ("moves", Some(count), _) => moves(map, count, second, more),
         (_, start, step) => {
             let words = if verb == "remove_each" { more } else { rest };
-            match pairs(alloc, words)? {
-                Some(pairs) => {
-                    let order = (start.unwrap_or(0), step.unwrap_or(1));
-                    over_pairs(alloc, map, verb, order, pairs.as_slice())?
-                }
-                None => None,
-            }
+            let order = (start.unwrap_or(0), step.unwrap_or(1));
+            over_words(alloc, map, (verb, words), order, reply)
         }
     };
     match is_right {
-        Some(is_right) => reply.truth(is_right)?,
-        None => return Ok(false),
+        Some(is_right) => reply.truth(is_right),
+        None => return false,
     }
-    Ok(true)
+    true
 }

@@ -5,24 +5,21 @@ use book_map_calls::{numbers, put_left};
 use book_text::{Reply, number};
 use btree_node::{CloneNodes, NodesMut};
 use btree_set::BTreeSet;
-use std::alloc::{AllocError, Global};
+use std::alloc::Global;
 use std::hash::{DefaultHasher, Hash, Hasher};
 
 type Set<C> = BTreeSet<u64, C>;
 
 // Adds what a merge yields, with the hint before each element and at the end.
-fn put_merge<'a, I: Iterator<Item = &'a u64> + Drop>(
-    items: I,
-    reply: &mut Reply,
-) -> Result<(), AllocError>
+fn put_merge<'a, I: Iterator<Item = &'a u64> + Drop>(items: I, reply: &mut Reply)
     requires can { (state : I) → I.can_next state }
     requires ends { IsFinite (I.remaining items) }
 {
     let mut items = items;
-    reply.hint(items.size_hint())?;
+    reply.hint(items.size_hint());
     while let Some(element) = items.next() {
-        reply.number(*element)?;
-        reply.hint(items.size_hint())?;
+        reply.number(*element);
+        reply.hint(items.size_hint());
     }
     reply.word(if items.next().is_none() {
         "none"
@@ -37,14 +34,14 @@ fn compare<C: NodesMut<u64, ()>, D: NodesMut<u64, ()>>(
     other: &Set<C>,
     copy: &Set<D>,
     reply: &mut Reply,
-) -> Result<(), AllocError> {
-    reply.truth(*set == *other)?;
-    reply.order(set.cmp(other))?;
+) {
+    reply.truth(*set == *other);
+    reply.order(set.cmp(other));
     if let Some(order) = set.partial_cmp(other) {
-        reply.order(order)?;
+        reply.order(order);
     }
-    reply.truth(set.same_items(copy))?;
-    reply.order(set.compare_items(copy))
+    reply.truth(set.same_items(copy));
+    reply.order(set.compare_items(copy));
 }
 
 // Merges a set with one over another store that has the elements of the other set.
@@ -54,53 +51,45 @@ fn merge<C: NodesMut<u64, ()>, D: NodesMut<u64, ()> + Drop>(
     origin: D::Origin,
     verb: &str,
     reply: &mut Reply,
-) -> Result<bool, AllocError>
+) -> bool
 where
     D::Origin: Copy,
 {
     let mut copy: BTreeSet<u64, D> = BTreeSet::new(origin);
     if copy.extend_copied(&mut other.iter()).is_err() {
-        reply.word("no memory")?;
-        return Ok(true);
+        reply.word("no memory");
+        return true;
     }
     match verb {
-        "union" => put_merge(set.union(&copy), reply)?,
-        "intersection" => put_merge(set.intersection(&copy), reply)?,
-        "difference" => put_merge(set.difference(&copy), reply)?,
-        "symmetric_difference" => put_merge(set.symmetric_difference(&copy), reply)?,
-        "is_disjoint" => reply.truth(set.is_disjoint(&copy))?,
-        "is_subset" => reply.truth(set.is_subset(&copy))?,
-        "is_superset" => reply.truth(set.is_superset(&copy))?,
-        "compare" => compare(set, other, &copy, reply)?,
-        _ => return Ok(false),
+        "union" => put_merge(set.union(&copy), reply),
+        "intersection" => put_merge(set.intersection(&copy), reply),
+        "difference" => put_merge(set.difference(&copy), reply),
+        "symmetric_difference" => put_merge(set.symmetric_difference(&copy), reply),
+        "is_disjoint" => reply.truth(set.is_disjoint(&copy)),
+        "is_subset" => reply.truth(set.is_subset(&copy)),
+        "is_superset" => reply.truth(set.is_superset(&copy)),
+        "compare" => compare(set, other, &copy, reply),
+        _ => return false,
     }
-    Ok(true)
+    true
 }
 
-fn extend<C: NodesMut<u64, ()>>(
-    set: &mut Set<C>,
-    elements: &[u64],
-    reply: &mut Reply,
-) -> Result<(), AllocError> {
+fn extend<C: NodesMut<u64, ()>>(set: &mut Set<C>, elements: &[u64], reply: &mut Reply) {
     let mut source = elements.iter().copied();
     match set.extend(&mut source) {
-        Ok(()) => reply.word("ok")?,
-        Err(refused) => reply.refused_key(refused.cause, refused.key)?,
+        Ok(()) => reply.word("ok"),
+        Err(refused) => reply.refused_key(refused.cause, refused.key),
     }
-    put_left(&mut source, reply)
+    put_left(&mut source, reply);
 }
 
-fn extend_copied<C: NodesMut<u64, ()>>(
-    set: &mut Set<C>,
-    other: &Set<C>,
-    reply: &mut Reply,
-) -> Result<(), AllocError> {
+fn extend_copied<C: NodesMut<u64, ()>>(set: &mut Set<C>, other: &Set<C>, reply: &mut Reply) {
     let mut source = other.iter();
     match set.extend_copied(&mut source) {
-        Ok(()) => reply.word("ok")?,
-        Err(refused) => reply.refused_key(refused.cause, refused.key)?,
+        Ok(()) => reply.word("ok"),
+        Err(refused) => reply.refused_key(refused.cause, refused.key),
     }
-    put_left(&mut source, reply)
+    put_left(&mut source, reply);
 }
 
 fn from_iter<C: NodesMut<u64, ()> + Drop>(
@@ -108,7 +97,7 @@ fn from_iter<C: NodesMut<u64, ()> + Drop>(
     origin: C::Origin,
     elements: &[u64],
     reply: &mut Reply,
-) -> Result<(), AllocError>
+)
 where
     C::Origin: Copy,
 {
@@ -116,32 +105,28 @@ where
     match BTreeSet::<u64, C>::from_iter(origin, &mut source) {
         Ok(made) => {
             *set = made;
-            reply.word("ok")?
+            reply.word("ok")
         }
         Err((made, refused)) => {
             *set = made;
-            reply.refused_key(refused.cause, refused.key)?
+            reply.refused_key(refused.cause, refused.key)
         }
     }
-    put_left(&mut source, reply)
+    put_left(&mut source, reply);
 }
 
 // Adds what is left of a set.
-fn put_rest<C: NodesMut<u64, ()>>(set: &Set<C>, reply: &mut Reply) -> Result<(), AllocError> {
+fn put_rest<C: NodesMut<u64, ()>>(set: &Set<C>, reply: &mut Reply) {
     let mut source = set.iter();
-    put_left(&mut source, reply)
+    put_left(&mut source, reply);
 }
 
-fn append<C: NodesMut<u64, ()>>(
-    set: &mut Set<C>,
-    other: &mut Set<C>,
-    reply: &mut Reply,
-) -> Result<(), AllocError> {
+fn append<C: NodesMut<u64, ()>>(set: &mut Set<C>, other: &mut Set<C>, reply: &mut Reply) {
     match set.append(other) {
-        Ok(()) => reply.word("ok")?,
-        Err(refused) => reply.refused_key(refused.cause, refused.key)?,
+        Ok(()) => reply.word("ok"),
+        Err(refused) => reply.refused_key(refused.cause, refused.key),
     }
-    put_rest(other, reply)
+    put_rest(other, reply);
 }
 
 // Moves the elements of the other set from one on into a new set.
@@ -151,7 +136,7 @@ fn split_off<C: NodesMut<u64, ()> + Drop>(
     other: &mut Set<C>,
     element: u64,
     reply: &mut Reply,
-) -> Result<(), AllocError> {
+) {
     match other.split_off(&element, C::empty(origin)) {
         Ok(moved) => {
             *set = moved;
@@ -165,11 +150,7 @@ fn split_off<C: NodesMut<u64, ()> + Drop>(
 }
 
 // Makes a set a clone of the other one.
-fn clone<C: CloneNodes<u64, ()> + Drop>(
-    set: &mut Set<C>,
-    other: &Set<C>,
-    reply: &mut Reply,
-) -> Result<(), AllocError> {
+fn clone<C: CloneNodes<u64, ()> + Drop>(set: &mut Set<C>, other: &Set<C>, reply: &mut Reply) {
     match other.clone() {
         Ok(copy) => {
             *set = copy;
@@ -191,16 +172,16 @@ fn limited<C: NodesMut<u64, ()> + Drop>(
     origin: C::Origin,
     word: &str,
     reply: &mut Reply,
-) -> Result<bool, AllocError>
+) -> bool
 where
     C::Origin: Copy,
 {
     let Some(limit) = number(word) else {
-        return Ok(false);
+        return false;
     };
     *set = BTreeSet::with_limit(origin, limit as usize);
-    reply.word("ok")?;
-    Ok(true)
+    reply.word("ok");
+    true
 }
 
 // Returns the hash of the elements in order, and of nothing else.
@@ -217,17 +198,17 @@ fn of_two<C: CloneNodes<u64, ()> + Drop>(
     other: &mut Set<C>,
     verb: &str,
     reply: &mut Reply,
-) -> Result<bool, AllocError> {
+) -> bool {
     match verb {
-        "append" => append(set, other, reply)?,
-        "clone" => clone(set, other, reply)?,
-        "extend_copied" => extend_copied(set, other, reply)?,
-        "equals" => reply.truth(*set == *other)?,
-        "same_hash" => reply.truth(hash_of(set) == hash_of(other))?,
-        "plain_hash" => reply.truth(hash_of(set) == plain_hash_of(set))?,
-        _ => return Ok(false),
+        "append" => append(set, other, reply),
+        "clone" => clone(set, other, reply),
+        "extend_copied" => extend_copied(set, other, reply),
+        "equals" => reply.truth(*set == *other),
+        "same_hash" => reply.truth(hash_of(set) == hash_of(other)),
+        "plain_hash" => reply.truth(hash_of(set) == plain_hash_of(set)),
+        _ => return false,
     }
-    Ok(true)
+    true
 }
 
 /// Serves a call of two sets, or of a list of elements. Returns whether the words are one.
@@ -239,35 +220,33 @@ pub(crate) fn serve_merges<C: CloneNodes<u64, ()> + Drop, D: NodesMut<u64, ()> +
     verb: &str,
     rest: &str,
     reply: &mut Reply,
-) -> Result<bool, AllocError>
+) -> bool
 where
     C::Origin: Copy,
     D::Origin: Copy,
 {
     if rest == "" {
-        return Ok(
-            of_two(set, other, verb, reply)? || merge::<C, D>(set, other, origins.1, verb, reply)?,
-        );
+        return of_two(set, other, verb, reply) || merge::<C, D>(set, other, origins.1, verb, reply);
     }
     if verb == "split_off"
         && let Some(element) = number(rest)
     {
-        split_off(set, origins.0, other, element, reply)?;
-        return Ok(true);
+        split_off(set, origins.0, other, element, reply);
+        return true;
     }
     if verb == "limited" {
         return limited(set, origins.0, rest, reply);
     }
     if verb != "extend" && verb != "from_iter" {
-        return Ok(false);
+        return false;
     }
-    let Some(elements) = numbers(alloc, rest)? else {
-        return Ok(false);
+    let Some(elements) = numbers(alloc, rest, reply) else {
+        return false;
     };
     if verb == "extend" {
-        extend(set, elements.as_slice(), reply)?;
+        extend(set, elements.as_slice(), reply);
     } else {
-        from_iter(set, origins.0, elements.as_slice(), reply)?;
+        from_iter(set, origins.0, elements.as_slice(), reply);
     }
-    Ok(true)
+    true
 }

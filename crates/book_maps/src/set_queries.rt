@@ -4,7 +4,6 @@ use book_text::{Reply, word};
 use btree_item::{After, Before, Query};
 use btree_node::NodesMut;
 use btree_set::BTreeSet;
-use std::alloc::AllocError;
 
 type Set<C> = BTreeSet<u64, C>;
 
@@ -13,21 +12,21 @@ fn by_query<Q: Query<u64>, C: NodesMut<u64, ()>>(
     verb: &str,
     query: &Q,
     reply: &mut Reply,
-) -> Result<bool, AllocError> {
+) -> bool {
     match verb {
-        "contains_by" => reply.truth(set.contains_by(query))?,
-        "get_by" => reply.value(set.get_by(query).copied())?,
+        "contains_by" => reply.truth(set.contains_by(query)),
+        "get_by" => reply.value(set.get_by(query).copied()),
         "remove_by" => {
             let was_there = set.remove_by(query);
-            reply.truth(was_there)?
+            reply.truth(was_there)
         }
         "take_by" => {
             let taken = set.take_by(query);
-            reply.value(taken)?
+            reply.value(taken)
         }
-        _ => return Ok(false),
+        _ => return false,
     }
-    Ok(true)
+    true
 }
 
 // Takes elements from both ends of a range between two queries.
@@ -37,7 +36,7 @@ fn range_to<Q: Query<u64>, C: NodesMut<u64, ()>>(
     end: Spot,
     ends: &str,
     reply: &mut Reply,
-) -> Result<(), AllocError> {
+) {
     match end {
         Spot::At(key) => walk(set.range_by(start, &key), ends, reply),
         Spot::Before(key) => walk(set.range_by(start, &Before(&key)), ends, reply),
@@ -50,17 +49,17 @@ fn range_by<C: NodesMut<u64, ()>>(
     start: Spot,
     words: &str,
     reply: &mut Reply,
-) -> Result<bool, AllocError> {
+) -> bool {
     let (end, ends) = word(words);
     let Some(end) = read_spot(end) else {
-        return Ok(false);
+        return false;
     };
     match start {
-        Spot::At(key) => range_to(set, &key, end, ends, reply)?,
-        Spot::Before(key) => range_to(set, &Before(&key), end, ends, reply)?,
-        Spot::After(key) => range_to(set, &After(&key), end, ends, reply)?,
+        Spot::At(key) => range_to(set, &key, end, ends, reply),
+        Spot::Before(key) => range_to(set, &Before(&key), end, ends, reply),
+        Spot::After(key) => range_to(set, &After(&key), end, ends, reply),
     }
-    Ok(true)
+    true
 }
 
 /// Serves a call by a query. Returns whether the words are one.
@@ -69,10 +68,10 @@ pub(crate) fn serve_queries<C: NodesMut<u64, ()>>(
     verb: &str,
     words: &str,
     reply: &mut Reply,
-) -> Result<bool, AllocError> {
+) -> bool {
     let (first, rest) = word(words);
     let Some(spot) = read_spot(first) else {
-        return Ok(false);
+        return false;
     };
     if verb == "range_by" {
         return range_by(set, spot, rest, reply);

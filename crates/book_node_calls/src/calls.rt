@@ -4,7 +4,6 @@ use crate::edits::{insert, put_at, put_by_key, take_at, take_end};
 use crate::ends::{append, merge, push, serve_both};
 use crate::text::{PlainNode, read_item};
 use book_text::{Reply, number, offset, pair, two_numbers, word};
-use std::alloc::AllocError;
 
 // Serves a call of one word after the verb.
 fn serve_word(
@@ -13,35 +12,35 @@ fn serve_word(
     verb: &str,
     word: &str,
     reply: &mut Reply,
-) -> Result<bool, AllocError> {
+) -> bool {
     if verb == "set_parent" {
         let Some(parent) = number_or_none(word) else {
-            return Ok(false);
+            return false;
         };
         node.set_parent(parent.map(|id| id as usize));
-        reply.word("ok")?;
-        return Ok(true);
+        reply.word("ok");
+        return true;
     }
     if let Some((key, value)) = pair(word) {
-        if put_by_key(node, verb, key, value, reply)? {
-            return Ok(true);
+        if put_by_key(node, verb, key, value, reply) {
+            return true;
         }
     }
     if let Some(item) = read_item(word) {
         if verb == "append" {
-            append(node, other, item, reply)?;
-            return Ok(true);
+            append(node, other, item, reply);
+            return true;
         }
         return push(node, verb, item, None, reply);
     }
     if let Some(offset) = offset(word)
-        && take_at(node, verb, offset, reply)?
+        && take_at(node, verb, offset, reply)
     {
-        return Ok(true);
+        return true;
     }
     match number(word) {
         Some(number) => ask_number(node, verb, number, reply),
-        None => Ok(false),
+        None => false,
     }
 }
 
@@ -52,20 +51,20 @@ fn serve_insertion(
     first: &str,
     rest: &str,
     reply: &mut Reply,
-) -> Result<bool, AllocError> {
+) -> bool {
     let (second, third) = word(rest);
     let (Some(offset), Some(item)) = (offset(first), read_item(second)) else {
-        return Ok(false);
+        return false;
     };
     if third == "" {
         return put_at(node, verb, offset, item, reply);
     }
     match number(third) {
         Some(child) if verb == "insert" => {
-            insert(node, offset, item, Some(child as usize), reply)?;
-            Ok(true)
+            insert(node, offset, item, Some(child as usize), reply);
+            true
         }
-        _ => Ok(false),
+        _ => false,
     }
 }
 
@@ -76,13 +75,11 @@ pub fn serve_node(
     verb: &str,
     rest: &str,
     reply: &mut Reply,
-) -> Result<bool, AllocError> {
+) -> bool {
     if rest == "" {
-        return Ok(
-            ask(node, verb, reply)?
-                || take_end(node, verb, reply)?
-                || serve_both(node, other, verb, reply)?,
-        );
+        return ask(node, verb, reply)
+            || take_end(node, verb, reply)
+            || serve_both(node, other, verb, reply);
     }
     let (first, more) = word(rest);
     if more == "" {
@@ -90,17 +87,17 @@ pub fn serve_node(
     }
     if verb == "validate" {
         let (Some(parent), Some((min, max))) = (number_or_none(first), read_separators(more)) else {
-            return Ok(false);
+            return false;
         };
-        validate(node, parent, min, max, reply)?;
-        return Ok(true);
+        validate(node, parent, min, max, reply);
+        return true;
     }
     if verb == "merge" {
         let Some((left, right)) = two_numbers(rest) else {
-            return Ok(false);
+            return false;
         };
-        merge(node, left as usize, right as usize, reply)?;
-        return Ok(true);
+        merge(node, left as usize, right as usize, reply);
+        return true;
     }
     if let (Some(item), Some(child)) = (read_item(first), number(more)) {
         return push(node, verb, item, Some(child as usize), reply);

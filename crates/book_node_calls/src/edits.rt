@@ -9,7 +9,6 @@ use crate::text::{PlainNode, put_item};
 use book_text::Reply;
 use btree_item::{Item, Offset};
 use btree_node::Node;
-use std::alloc::AllocError;
 use std::mem;
 
 // Returns whether a node has room for one more item.
@@ -22,12 +21,7 @@ fn has_room(node: &PlainNode) -> bool
     }
 }
 
-fn get_mut(
-    node: &mut PlainNode,
-    key: u64,
-    value: u64,
-    reply: &mut Reply,
-) -> Result<(), AllocError> {
+fn get_mut(node: &mut PlainNode, key: u64, value: u64, reply: &mut Reply) {
     if !is_valid(node) {
         return reply.word("not valid");
     }
@@ -38,12 +32,7 @@ fn get_mut(
     }
 }
 
-fn find_mut(
-    node: &mut PlainNode,
-    key: u64,
-    value: u64,
-    reply: &mut Reply,
-) -> Result<(), AllocError> {
+fn find_mut(node: &mut PlainNode, key: u64, value: u64, reply: &mut Reply) {
     if !is_valid(node) {
         return reply.word("not valid");
     }
@@ -54,12 +43,7 @@ fn find_mut(
     }
 }
 
-fn insert_by_key(
-    node: &mut PlainNode,
-    key: u64,
-    value: u64,
-    reply: &mut Reply,
-) -> Result<(), AllocError> {
+fn insert_by_key(node: &mut PlainNode, key: u64, value: u64, reply: &mut Reply) {
     if node.child_count() == 0 && !has_room(node) {
         return reply.word("full");
     }
@@ -68,13 +52,13 @@ fn insert_by_key(
     }
     match node.insert_by_key(key, value) {
         Ok((offset, old)) => {
-            put_offset(reply, offset)?;
+            put_offset(reply, offset);
             reply.value(old)
         }
         Err(error) => {
-            reply.word("gap")?;
-            reply.count(error.child_offset)?;
-            put_child(reply, error.child_id)?;
+            reply.word("gap");
+            reply.count(error.child_offset);
+            put_child(reply, error.child_id);
             reply.pair(error.key, error.value)
         }
     }
@@ -87,22 +71,17 @@ pub(crate) fn put_by_key(
     key: u64,
     value: u64,
     reply: &mut Reply,
-) -> Result<bool, AllocError> {
+) -> bool {
     match verb {
-        "get_mut" => get_mut(node, key, value, reply)?,
-        "find_mut" => find_mut(node, key, value, reply)?,
-        "insert_by_key" => insert_by_key(node, key, value, reply)?,
-        _ => return Ok(false),
+        "get_mut" => get_mut(node, key, value, reply),
+        "find_mut" => find_mut(node, key, value, reply),
+        "insert_by_key" => insert_by_key(node, key, value, reply),
+        _ => return false,
     }
-    Ok(true)
+    true
 }
 
-fn item_mut(
-    node: &mut PlainNode,
-    offset: Offset,
-    item: Item<u64, u64>,
-    reply: &mut Reply,
-) -> Result<(), AllocError> {
+fn item_mut(node: &mut PlainNode, offset: Offset, item: Item<u64, u64>, reply: &mut Reply) {
     match node.item_mut(offset) {
         Some(here) => {
             let old = mem::replace(here, item);
@@ -112,12 +91,7 @@ fn item_mut(
     }
 }
 
-fn replace(
-    node: &mut PlainNode,
-    offset: Offset,
-    item: Item<u64, u64>,
-    reply: &mut Reply,
-) -> Result<(), AllocError> {
+fn replace(node: &mut PlainNode, offset: Offset, item: Item<u64, u64>, reply: &mut Reply) {
     let Some(index) = offset.value() else {
         return reply.word("not occupied");
     };
@@ -128,7 +102,7 @@ fn replace(
         return reply.word("not occupied");
     }
     let old = node.replace(offset, item);
-    put_item(reply, Some(&old))
+    put_item(reply, Some(&old));
 }
 
 /// Serves a call at an offset with an item. Returns whether the word is one.
@@ -138,14 +112,14 @@ pub(crate) fn put_at(
     offset: Offset,
     item: Item<u64, u64>,
     reply: &mut Reply,
-) -> Result<bool, AllocError> {
+) -> bool {
     match verb {
-        "item_mut" => item_mut(node, offset, item, reply)?,
-        "replace" => replace(node, offset, item, reply)?,
-        "insert" => insert(node, offset, item, None, reply)?,
-        _ => return Ok(false),
+        "item_mut" => item_mut(node, offset, item, reply),
+        "replace" => replace(node, offset, item, reply),
+        "insert" => insert(node, offset, item, None, reply),
+        _ => return false,
     }
-    Ok(true)
+    true
 }
 
 /// Returns why a node does not take an item and a child, if it does not: it has no room, or a leaf is given a child, or an internal node none.
@@ -171,7 +145,7 @@ pub(crate) fn insert(
     item: Item<u64, u64>,
     child: Option<usize>,
     reply: &mut Reply,
-) -> Result<(), AllocError> {
+) {
     let Some(index) = offset.value() else {
         return reply.word("not valid");
     };
@@ -182,10 +156,10 @@ pub(crate) fn insert(
         return reply.word(objection);
     }
     node.insert(offset, item, child);
-    reply.word("ok")
+    reply.word("ok");
 }
 
-fn remove(node: &mut PlainNode, offset: Offset, reply: &mut Reply) -> Result<(), AllocError> {
+fn remove(node: &mut PlainNode, offset: Offset, reply: &mut Reply) {
     let Some(index) = offset.value() else {
         return reply.word("not occupied");
     };
@@ -199,14 +173,14 @@ fn remove(node: &mut PlainNode, offset: Offset, reply: &mut Reply) -> Result<(),
         }
         Node::Internal(node) => {
             let (left, item, right) = node.remove(offset);
-            reply.count(left)?;
-            put_item(reply, Some(&item))?;
+            reply.count(left);
+            put_item(reply, Some(&item));
             reply.count(right)
         }
     }
 }
 
-fn leaf_remove(node: &mut PlainNode, offset: Offset, reply: &mut Reply) -> Result<(), AllocError> {
+fn leaf_remove(node: &mut PlainNode, offset: Offset, reply: &mut Reply) {
     match node.leaf_remove(offset) {
         Some(Ok(item)) => put_item(reply, Some(&item)),
         Some(Err(child)) => put_child(reply, child),
@@ -215,22 +189,17 @@ fn leaf_remove(node: &mut PlainNode, offset: Offset, reply: &mut Reply) -> Resul
 }
 
 /// Serves a call at an offset. Returns whether the word is one.
-pub(crate) fn take_at(
-    node: &mut PlainNode,
-    verb: &str,
-    offset: Offset,
-    reply: &mut Reply,
-) -> Result<bool, AllocError> {
+pub(crate) fn take_at(node: &mut PlainNode, verb: &str, offset: Offset, reply: &mut Reply) -> bool {
     match verb {
-        "item" => put_item(reply, node.item(offset))?,
-        "remove" => remove(node, offset, reply)?,
-        "leaf_remove" => leaf_remove(node, offset, reply)?,
-        _ => return Ok(false),
+        "item" => put_item(reply, node.item(offset)),
+        "remove" => remove(node, offset, reply),
+        "leaf_remove" => leaf_remove(node, offset, reply),
+        _ => return false,
     }
-    Ok(true)
+    true
 }
 
-fn remove_last(node: &mut PlainNode, reply: &mut Reply) -> Result<(), AllocError> {
+fn remove_last(node: &mut PlainNode, reply: &mut Reply) {
     let Node::Leaf(leaf) = node else {
         return reply.word("not a leaf");
     };
@@ -238,10 +207,10 @@ fn remove_last(node: &mut PlainNode, reply: &mut Reply) -> Result<(), AllocError
         return reply.word("no item");
     }
     let item = leaf.remove_last();
-    put_item(reply, Some(&item))
+    put_item(reply, Some(&item));
 }
 
-fn remove_rightmost_leaf(node: &mut PlainNode, reply: &mut Reply) -> Result<(), AllocError> {
+fn remove_rightmost_leaf(node: &mut PlainNode, reply: &mut Reply) {
     if node.child_count() == 0 && node.item_count() == 0 {
         return reply.word("no item");
     }
@@ -251,21 +220,21 @@ fn remove_rightmost_leaf(node: &mut PlainNode, reply: &mut Reply) -> Result<(), 
     }
 }
 
-fn pop_left(node: &mut PlainNode, reply: &mut Reply) -> Result<(), AllocError> {
+fn pop_left(node: &mut PlainNode, reply: &mut Reply) {
     match node.pop_left() {
         Ok((item, child)) => {
-            put_item(reply, Some(&item))?;
+            put_item(reply, Some(&item));
             put_number(reply, child)
         }
         Err(_) => reply.word("would underflow"),
     }
 }
 
-fn pop_right(node: &mut PlainNode, reply: &mut Reply) -> Result<(), AllocError> {
+fn pop_right(node: &mut PlainNode, reply: &mut Reply) {
     match node.pop_right() {
         Ok((offset, item, child)) => {
-            put_offset(reply, offset)?;
-            put_item(reply, Some(&item))?;
+            put_offset(reply, offset);
+            put_item(reply, Some(&item));
             put_number(reply, child)
         }
         Err(_) => reply.word("would underflow"),
@@ -273,17 +242,13 @@ fn pop_right(node: &mut PlainNode, reply: &mut Reply) -> Result<(), AllocError> 
 }
 
 /// Serves a call that takes an item at an end. Returns whether the word is one.
-pub(crate) fn take_end(
-    node: &mut PlainNode,
-    verb: &str,
-    reply: &mut Reply,
-) -> Result<bool, AllocError> {
+pub(crate) fn take_end(node: &mut PlainNode, verb: &str, reply: &mut Reply) -> bool {
     match verb {
-        "remove_last" => remove_last(node, reply)?,
-        "remove_rightmost_leaf" => remove_rightmost_leaf(node, reply)?,
-        "pop_left" => pop_left(node, reply)?,
-        "pop_right" => pop_right(node, reply)?,
-        _ => return Ok(false),
+        "remove_last" => remove_last(node, reply),
+        "remove_rightmost_leaf" => remove_rightmost_leaf(node, reply),
+        "pop_left" => pop_left(node, reply),
+        "pop_right" => pop_right(node, reply),
+        _ => return false,
     }
-    Ok(true)
+    true
 }

@@ -9,33 +9,22 @@ use crate::text::{PlainNode, empty_leaf, put_item};
 use book_text::Reply;
 use btree_item::Item;
 use btree_node::Node;
-use std::alloc::AllocError;
 use std::mem;
 
-fn push_left(
-    node: &mut PlainNode,
-    item: Item<u64, u64>,
-    child: Option<usize>,
-    reply: &mut Reply,
-) -> Result<(), AllocError> {
+fn push_left(node: &mut PlainNode, item: Item<u64, u64>, child: Option<usize>, reply: &mut Reply) {
     if let Some(objection) = objection(node, child) {
         return reply.word(objection);
     }
     node.push_left(item, child);
-    reply.word("ok")
+    reply.word("ok");
 }
 
-fn push_right(
-    node: &mut PlainNode,
-    item: Item<u64, u64>,
-    child: Option<usize>,
-    reply: &mut Reply,
-) -> Result<(), AllocError> {
+fn push_right(node: &mut PlainNode, item: Item<u64, u64>, child: Option<usize>, reply: &mut Reply) {
     if let Some(objection) = objection(node, child) {
         return reply.word(objection);
     }
     let offset = node.push_right(item, child);
-    put_offset(reply, offset)
+    put_offset(reply, offset);
 }
 
 /// Serves a call that pushes an item, and in an internal node a child. Returns whether the word is one.
@@ -45,24 +34,24 @@ pub(crate) fn push(
     item: Item<u64, u64>,
     child: Option<usize>,
     reply: &mut Reply,
-) -> Result<bool, AllocError> {
+) -> bool {
     match verb {
-        "push_left" => push_left(node, item, child, reply)?,
-        "push_right" => push_right(node, item, child, reply)?,
-        _ => return Ok(false),
+        "push_left" => push_left(node, item, child, reply),
+        "push_right" => push_right(node, item, child, reply),
+        _ => return false,
     }
-    Ok(true)
+    true
 }
 
 // Splits a node; the other one becomes the right part.
-fn split(node: &mut PlainNode, other: &mut PlainNode, reply: &mut Reply) -> Result<(), AllocError> {
+fn split(node: &mut PlainNode, other: &mut PlainNode, reply: &mut Reply) {
     if !node.is_overflowing() {
         return reply.word("not overflowing");
     }
     let (left, median, right) = node.split();
     *other = right;
-    reply.count(left)?;
-    put_item(reply, Some(&median))
+    reply.count(left);
+    put_item(reply, Some(&median));
 }
 
 // Returns why a separator and the items of the other node cannot be appended to one, if they cannot: they are of two kinds, or there is no
@@ -88,22 +77,17 @@ pub(crate) fn append(
     other: &mut PlainNode,
     item: Item<u64, u64>,
     reply: &mut Reply,
-) -> Result<(), AllocError> {
+) {
     if let Some(objection) = objection_to_joining(node, other) {
         return reply.word(objection);
     }
     let appended = mem::replace(other, empty_leaf());
     let offset = node.append(item, appended);
-    put_offset(reply, offset)
+    put_offset(reply, offset);
 }
 
 /// Takes out the item between two children, and the number of the right one.
-pub(crate) fn merge(
-    node: &mut PlainNode,
-    left: usize,
-    right: usize,
-    reply: &mut Reply,
-) -> Result<(), AllocError> {
+pub(crate) fn merge(node: &mut PlainNode, left: usize, right: usize, reply: &mut Reply) {
     if node.child_count() == 0 {
         return reply.word("not internal");
     }
@@ -111,16 +95,19 @@ pub(crate) fn merge(
         return reply.word("no such children");
     }
     let (left, left_id, right_id, item, balance) = node.merge(left, right);
-    reply.count(left)?;
-    reply.count(left_id)?;
-    reply.count(right_id)?;
-    put_item(reply, Some(&item))?;
-    put_balance(reply, balance)
+    reply.count(left);
+    reply.count(left_id);
+    reply.count(right_id);
+    put_item(reply, Some(&item));
+    put_balance(reply, balance);
 }
 
-fn clone(node: &PlainNode, other: &mut PlainNode, reply: &mut Reply) -> Result<(), AllocError> {
-    *other = node.clone()?;
-    reply.word("ok")
+fn clone(node: &PlainNode, other: &mut PlainNode, reply: &mut Reply) {
+    let copy: Result<_, _> = node.clone();
+    if let Some(copy) = reply.granted(copy) {
+        *other = copy;
+        reply.word("ok");
+    }
 }
 
 /// Serves a call of two nodes. Returns whether the word is one.
@@ -129,11 +116,11 @@ pub(crate) fn serve_both(
     other: &mut PlainNode,
     verb: &str,
     reply: &mut Reply,
-) -> Result<bool, AllocError> {
+) -> bool {
     match verb {
-        "split" => split(node, other, reply)?,
-        "clone" => clone(node, other, reply)?,
-        _ => return Ok(false),
+        "split" => split(node, other, reply),
+        "clone" => clone(node, other, reply),
+        _ => return false,
     }
-    Ok(true)
+    true
 }

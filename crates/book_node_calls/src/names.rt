@@ -3,7 +3,6 @@ use book_text::{Reply, node, number, offset, put_node};
 use btree_item::{Address, Offset};
 use btree_node::NodesMut;
 use btree_raw::RawBTree;
-use std::alloc::AllocError;
 
 /// A raw tree.
 pub type Raw<C> = RawBTree<u64, u64, C>;
@@ -57,15 +56,15 @@ pub fn put_name<C: NodesMut<u64, u64>>(
     raw: &Raw<C>,
     mark: Option<usize>,
     id: usize,
-) -> Result<(), AllocError> {
+) {
     if mark == Some(id) {
         return reply.word("M");
     }
-    put_node(reply, raw, id)
+    put_node(reply, raw, id);
 }
 
 /// Adds an offset with no space before it.
-pub(crate) fn glue_offset(reply: &mut Reply, offset: Offset) -> Result<(), AllocError> {
+pub(crate) fn glue_offset(reply: &mut Reply, offset: Offset) {
     match offset.value() {
         Some(index) => reply.glue_number(index as u64),
         None => reply.glue("-1"),
@@ -78,11 +77,11 @@ pub fn put_named<C: NodesMut<u64, u64>>(
     raw: &Raw<C>,
     mark: Option<usize>,
     addr: &Address,
-) -> Result<(), AllocError> {
+) {
     if addr.is_nowhere() {
         return reply.word("nowhere");
     }
-    put_name(reply, raw, mark, addr.id)?;
-    reply.glue(":")?;
-    glue_offset(reply, addr.offset)
+    put_name(reply, raw, mark, addr.id);
+    reply.glue(":");
+    glue_offset(reply, addr.offset);
 }

@@ -4,7 +4,6 @@ use book_text::{Reply, pair, word};
 use btree_item::{Item, Offset};
 use btree_node::internal::Internal;
 use btree_node::{LeafNode, Node, NodesMut};
-use std::alloc::AllocError;
 
 /// A node in no tree, or one of a tree.
 pub type PlainNode = Node<u64, u64>;
@@ -107,7 +106,7 @@ pub fn read_node<C: NodesMut<u64, u64>>(
 }
 
 /// Adds an item, or `none`.
-pub fn put_item(reply: &mut Reply, item: Option<&Item<u64, u64>>) -> Result<(), AllocError> {
+pub fn put_item(reply: &mut Reply, item: Option<&Item<u64, u64>>) {
     match item {
         Some(item) => reply.pair(*item.key(), *item.value()),
         None => reply.word("none"),
@@ -122,21 +121,20 @@ fn kind_word(node: &PlainNode) -> &'static str {
 }
 
 /// Adds the text of a node in no tree.
-pub fn put_node_text(reply: &mut Reply, node: &PlainNode) -> Result<(), AllocError> {
-    reply.word(kind_word(node))?;
+pub fn put_node_text(reply: &mut Reply, node: &PlainNode) {
+    reply.word(kind_word(node));
     if let Some(parent) = node.parent() {
-        reply.word("under")?;
-        reply.count(parent)?;
+        reply.word("under");
+        reply.count(parent);
     }
     for index in 0..10usize {
         if let Some(child) = node.child_id_opt(index) {
-            reply.count(child)?;
+            reply.count(child);
         }
         if let Some(item) = node.item(Offset::from(index)) {
-            put_item(reply, Some(item))?;
+            put_item(reply, Some(item));
         }
     }
-    Ok(())
 }
 
 /// Adds the text of a node of a tree, in which other nodes are named.
@@ -145,19 +143,18 @@ pub fn put_node_of<C: NodesMut<u64, u64>>(
     raw: &Raw<C>,
     mark: Option<usize>,
     node: &PlainNode,
-) -> Result<(), AllocError> {
-    reply.word(kind_word(node))?;
+) {
+    reply.word(kind_word(node));
     if let Some(parent) = node.parent() {
-        reply.word("under")?;
-        put_name(reply, raw, mark, parent)?;
+        reply.word("under");
+        put_name(reply, raw, mark, parent);
     }
     for index in 0..10usize {
         if let Some(child) = node.child_id_opt(index) {
-            put_name(reply, raw, mark, child)?;
+            put_name(reply, raw, mark, child);
         }
         if let Some(item) = node.item(Offset::from(index)) {
-            put_item(reply, Some(item))?;
+            put_item(reply, Some(item));
         }
     }
-    Ok(())
 }

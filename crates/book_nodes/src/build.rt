@@ -9,7 +9,7 @@ use btree_item::Item;
 use btree_map::BTreeMap;
 use btree_node::internal::Internal;
 use btree_node::{ClearNodes, LeafNode, Node, NodesMut};
-use std::alloc::{AllocError, Global};
+use std::alloc::Global;
 
 // The most levels of a text.
 const LEVELS: usize = 64;
@@ -113,39 +113,41 @@ fn build_nodes<'a, C: NodesMut<u64, u64>>(
 }
 
 // Adds the keys of a leaf of so many items, from a key on. Returns the key after them.
-fn number_leaf(keys: &mut String, next: u64, items: u64) -> Result<u64, AllocError> {
-    keys.push('(')?;
+fn number_leaf(keys: &mut Reply, next: u64, items: u64) -> u64 {
+    keys.glue("(");
     for index in 0..items {
         if index > 0 {
-            keys.push(' ')?;
+            keys.glue(" ");
         }
-        write!(keys, "{}", next.wrapping_add(index))?;
+        keys.glue_number(next.wrapping_add(index));
     }
-    keys.push(')')?;
-    Ok(next.wrapping_add(items))
+    keys.glue(")");
+    next.wrapping_add(items)
 }
 
 // Returns the text with keys of one that says how many items each leaf has. The keys number the items from 0.
-fn numbered(alloc: Global, text: &str) -> Result<String, AllocError> {
-    let mut keys = String::new(alloc);
+fn numbered(alloc: Global, text: &str) -> Reply {
+    let mut keys = Reply::new(alloc);
     let (mut next, mut is_after_child) = (0u64, false);
     for letter in text.as_bytes() {
         if *letter == b']' {
-            keys.push(')')?;
+            keys.glue(")");
             continue;
         }
         if is_after_child {
-            write!(keys, " {next} ")?;
+            keys.glue(" ");
+            keys.glue_number(next);
+            keys.glue(" ");
             next = next.wrapping_add(1);
         }
         is_after_child = *letter != b'[';
         if is_after_child {
-            next = number_leaf(&mut keys, next, letter.wrapping_sub(b'0') as u64)?;
+            next = number_leaf(&mut keys, next, letter.wrapping_sub(b'0') as u64);
         } else {
-            keys.push('(')?;
+            keys.glue("(");
         }
     }
-    Ok(keys)
+    keys
 }
 
 // Returns how many numbers a text has.
@@ -175,16 +177,12 @@ fn build_keys<C: ClearNodes<u64, u64>>(raw: &mut Raw<C>, text: &str) -> bool {
 }
 
 /// Builds a tree in place of the one that is there; its length is the number of its items. Returns whether the text is that of a tree.
-pub(crate) fn build<C: ClearNodes<u64, u64>>(
-    raw: &mut Raw<C>,
-    alloc: Global,
-    text: &str,
-) -> Result<bool, AllocError> {
+pub(crate) fn build<C: ClearNodes<u64, u64>>(raw: &mut Raw<C>, alloc: Global, text: &str) -> bool {
     if text.starts_with('(') {
-        return Ok(build_keys(raw, text));
+        return build_keys(raw, text);
     }
-    let keys = numbered(alloc, text)?;
-    Ok(build_keys(raw, keys.as_str()))
+    let keys = numbered(alloc, text);
+    build_keys(raw, keys.as_str())
 }
 
 // Adds a node over another one, which is its first child. It has three keys, and one leaf as its other children.
@@ -235,12 +233,7 @@ pub(crate) fn build_by_map<C: NodesMut<u64, u64> + Drop>(
 }
 
 // Adds how many items each leaf under a node has, of so many levels at most.
-fn glue_counts<C: NodesMut<u64, u64>>(
-    reply: &mut Reply,
-    raw: &Raw<C>,
-    id: usize,
-    levels: usize,
-) -> Result<(), AllocError> {
+fn glue_counts<C: NodesMut<u64, u64>>(reply: &mut Reply, raw: &Raw<C>, id: usize, levels: usize) {
     if levels == 0 || !raw.has_node(id) {
         return reply.glue("?");
     }
@@ -248,23 +241,20 @@ fn glue_counts<C: NodesMut<u64, u64>>(
     if node.child_count() == 0 {
         return reply.glue_number(node.item_count() as u64);
     }
-    reply.glue("[")?;
+    reply.glue("[");
     for index in 0..node.child_count() {
         if let Some(child) = node.child_id_opt(index) {
-            glue_counts(reply, raw, child, levels - 1)?;
+            glue_counts(reply, raw, child, levels - 1);
         }
     }
-    reply.glue("]")
+    reply.glue("]");
 }
 
 /// Adds the text of a tree that says how many items each leaf has, such as `[[333][3333]]`, or `none`.
-pub(crate) fn put_counts<C: NodesMut<u64, u64>>(
-    reply: &mut Reply,
-    raw: &Raw<C>,
-) -> Result<(), AllocError> {
+pub(crate) fn put_counts<C: NodesMut<u64, u64>>(reply: &mut Reply, raw: &Raw<C>) {
     match raw.root_id() {
         Some(root) => {
-            reply.word("")?;
+            reply.word("");
             glue_counts(reply, raw, root, LEVELS)
         }
         None => reply.word("none"),

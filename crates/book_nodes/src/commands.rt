@@ -58,20 +58,20 @@ pub(crate) fn read_steps(alloc: Global, text: &str) -> Result<Option<Vec<CursorS
     Ok(Some(steps))
 }
 
-fn put_reply(reply: &mut Reply, said: btree_session::Reply) -> Result<(), AllocError> {
+fn put_reply(reply: &mut Reply, said: btree_session::Reply) {
     match said {
         btree_session::Reply::Nothing => reply.word("none"),
         btree_session::Reply::Value(value) => {
-            reply.word("some")?;
+            reply.word("some");
             reply.number(value)
         }
         btree_session::Reply::Pair(key, value) => {
-            reply.word("pair")?;
+            reply.word("pair");
             reply.pair(key, value)
         }
         btree_session::Reply::Done => reply.word("ok"),
         btree_session::Reply::Found(value) => {
-            reply.word("found")?;
+            reply.word("found");
             reply.number(value)
         }
         btree_session::Reply::Gap => reply.word("gap"),
@@ -82,19 +82,15 @@ fn put_reply(reply: &mut Reply, said: btree_session::Reply) -> Result<(), AllocE
 }
 
 /// Adds the replies of a session, with a comma between them.
-pub(crate) fn put_replies(
-    reply: &mut Reply,
-    replies: &[btree_session::Reply],
-) -> Result<(), AllocError> {
+pub(crate) fn put_replies(reply: &mut Reply, replies: &[btree_session::Reply]) {
     let mut is_first = true;
     for said in replies {
         if !is_first {
-            reply.glue(",")?;
+            reply.glue(",");
         }
         is_first = false;
-        put_reply(reply, *said)?;
+        put_reply(reply, *said);
     }
-    Ok(())
 }
 
 // Adds what a part of a line after a backslash stands for: `r` for a carriage return, `t` for a tab, `s` for a space and `xff` for the byte
@@ -160,25 +156,20 @@ fn stop_word(end: Result<(), Stop>) -> &'static str {
 }
 
 /// Adds what was written, with a slash for each newline, and how it ended.
-pub(crate) fn put_written(
-    reply: &mut Reply,
-    written: &[u8],
-    end: Result<(), Stop>,
-) -> Result<(), AllocError> {
+pub(crate) fn put_written(reply: &mut Reply, written: &[u8], end: Result<(), Stop>) {
     let Ok(text) = str::from_utf8(written) else {
         return reply.word("not a text");
     };
     let mut is_first = true;
     for line in text.split('\n') {
         if !is_first {
-            reply.glue(" / ")?;
+            reply.glue(" / ");
         }
         is_first = false;
-        reply.glue(line)?;
+        reply.glue(line);
     }
-    reply.glue(stop_word(end))?;
+    reply.glue(stop_word(end));
     if let Err(Stop::NotACommand(number)) = end {
-        reply.number(number)?;
+        reply.number(number);
     }
-    Ok(())
 }

@@ -13,7 +13,7 @@ use btree_map::BTreeMap;
 use btree_node::{ClearNodes, NodesMut};
 use btree_raw::RawBTree;
 use btree_session::Session;
-use std::alloc::{AllocError, Global};
+use std::alloc::Global;
 use std::{io, mem};
 use test_support::Refusing;
 
@@ -44,11 +44,11 @@ fn serve_one<C: NodesMut<u64, u64>>(
     mark: Option<usize>,
     words: &str,
     reply: &mut Reply,
-) -> Result<bool, AllocError> {
+) -> bool {
     if let Some(built) = read_node(raw, mark, words) {
         *node = built;
-        reply.word("ok")?;
-        return Ok(true);
+        reply.word("ok");
+        return true;
     }
     let (verb, rest) = word(words);
     serve_node(node, other, verb, rest, reply)
@@ -60,17 +60,13 @@ fn from_map<C: NodesMut<u64, u64> + Drop>(
     origin: C::Origin,
     keys: &str,
     reply: &mut Reply,
-) -> Result<bool, AllocError> {
+) -> bool {
     let is_built = build_by_map(raw, origin, keys).is_some();
     put_built(reply, is_built)
 }
 
 // Inserts a pair into a map, and adds the value that it replaces, or the refusal.
-fn insert<C: NodesMut<u64, u64>>(
-    map: &mut Map<C>,
-    item: Item<u64, u64>,
-    reply: &mut Reply,
-) -> Result<(), AllocError> {
+fn insert<C: NodesMut<u64, u64>>(map: &mut Map<C>, item: Item<u64, u64>, reply: &mut Reply) {
     let (key, value) = item.into_pair();
     match map.insert(key, value) {
         Ok(old) => reply.value(old),
@@ -85,22 +81,22 @@ fn to_map<C: NodesMut<u64, u64> + Drop>(
     origin: C::Origin,
     item: Option<Item<u64, u64>>,
     reply: &mut Reply,
-) -> Result<bool, AllocError> {
+) -> bool {
     let given = mem::replace(raw, RawBTree::new(origin));
     match BTreeMap::from_raw(given) {
         Ok(mut map) => {
             match item {
-                Some(item) => insert(&mut map, item, reply)?,
-                None => list(&map, reply)?,
+                Some(item) => insert(&mut map, item, reply),
+                None => list(&map, reply),
             }
             *raw = map.into_raw();
         }
         Err((back, fault)) => {
             *raw = back;
-            reply.validity(Err(fault))?;
+            reply.validity(Err(fault));
         }
     }
-    Ok(true)
+    true
 }
 
 fn set_up<C: ClearNodes<u64, u64> + Drop>(alloc: Global, origin: C::Origin) -> Bench<C>
@@ -120,24 +116,24 @@ where
 }
 
 // Adds everything that calls can change in a tree: its nodes with the numbers that the store gave them, its root, its length and its limit.
-fn put_content<C: NodesMut<u64, u64>>(reply: &mut Reply, raw: &Raw<C>) -> Result<(), AllocError> {
+fn put_content<C: NodesMut<u64, u64>>(reply: &mut Reply, raw: &Raw<C>) {
     for id in 0..NUMBERS {
         if raw.has_node(id) {
-            reply.count(id)?;
-            put_node_text(reply, raw.node(id))?;
+            reply.count(id);
+            put_node_text(reply, raw.node(id));
         }
     }
-    reply.value(raw.root_id().map(|id| id as u64))?;
-    reply.count(raw.node_count())?;
-    reply.count(raw.len())?;
-    reply.count(raw.limit())
+    reply.value(raw.root_id().map(|id| id as u64));
+    reply.count(raw.node_count());
+    reply.count(raw.len());
+    reply.count(raw.limit());
 }
 
 impl<C: ClearNodes<u64, u64> + Drop> Desk for Bench<C>
 where
     C::Origin: Copy,
 {
-    fn call(&mut self, words: &str, reply: &mut Reply) -> Result<bool, AllocError> {
+    fn call(&mut self, words: &str, reply: &mut Reply) -> bool {
         let (name, rest) = word(words);
         match name {
             "n" => serve_one(&mut self.n, &mut self.m, &self.t, self.mark, rest, reply),
@@ -148,7 +144,7 @@ where
                 _ => match rest.strip_prefix("to_map insert ") {
                     Some(pair) => match read_item(pair) {
                         Some(item) => to_map(&mut self.t, self.origin, Some(item), reply),
-                        None => Ok(false),
+                        None => false,
                     },
                     None => serve_raw(&mut self.t, &mut self.mark, self.alloc, rest, reply),
                 },
@@ -156,8 +152,8 @@ where
             "s" => serve_session(&mut self.s, self.alloc, rest, reply),
             "c" => serve_cursor(&mut self.c, self.alloc, rest, reply),
             "help" => {
-                help(reply)?;
-                Ok(true)
+                help(reply);
+                true
             }
             "new" => {
                 self.n = empty_leaf();
@@ -166,20 +162,20 @@ where
                 self.mark = None;
                 self.s = Session::new(self.origin);
                 self.c = BTreeMap::new(self.origin);
-                reply.word("ok")?;
-                Ok(true)
+                reply.word("ok");
+                true
             }
-            _ => Ok(false),
+            _ => false,
         }
     }
 
-    fn content(&self, reply: &mut Reply) -> Result<(), AllocError> {
-        put_content(reply, &self.t)?;
-        reply.value(self.mark.map(|id| id as u64))?;
-        put_content(reply, self.s.map().as_raw())?;
-        put_content(reply, self.c.as_raw())?;
-        put_node_text(reply, &self.n)?;
-        put_node_text(reply, &self.m)
+    fn content(&self, reply: &mut Reply) {
+        put_content(reply, &self.t);
+        reply.value(self.mark.map(|id| id as u64));
+        put_content(reply, self.s.map().as_raw());
+        put_content(reply, self.c.as_raw());
+        put_node_text(reply, &self.n);
+        put_node_text(reply, &self.m);
     }
 }
 

@@ -4,7 +4,7 @@ use book_node_calls::{Raw, named, put_named};
 use book_text::{Reply, place, shape};
 use btree_item::{Address, Offset};
 use btree_node::{ClearNodes, NodesMut};
-use std::alloc::{AllocError, Global};
+use std::alloc::Global;
 
 // The most levels that a walk goes down.
 const LEVELS: usize = 32;
@@ -98,22 +98,22 @@ fn is_followed<C: NodesMut<u64, u64>>(
     addr: Address,
     is_listed: bool,
     reply: &mut Reply,
-) -> Result<bool, AllocError> {
+) -> bool {
     if !raw.is_off_by_one(id) || !raw.is_valid(addr) {
-        return Ok(false);
+        return false;
     }
     let asked = find_spot(raw, &addr);
     if is_listed {
-        put_named(reply, raw, None, &addr)?;
-        reply.word("to")?;
+        put_named(reply, raw, None, &addr);
+        reply.word("to");
     }
     let Ok(at) = raw.rebalance(id, addr) else {
-        return Ok(false);
+        return false;
     };
     if is_listed {
-        put_named(reply, raw, None, &at)?;
+        put_named(reply, raw, None, &at);
     }
-    Ok(raw.is_valid(at) && leads_back(asked, find_spot(raw, &at)))
+    raw.is_valid(at) && leads_back(asked, find_spot(raw, &at))
 }
 
 // Builds the tree anew, and rebalances it with the address that comes after so many. Returns whether that is followed.
@@ -123,17 +123,17 @@ fn follow<C: ClearNodes<u64, u64>>(
     plan: Plan<'_>,
     nth: usize,
     reply: &mut Reply,
-) -> Result<bool, AllocError> {
-    if !build(raw, alloc, plan.text)? {
-        return Ok(false);
+) -> bool {
+    if !build(raw, alloc, plan.text) {
+        return false;
     }
     raw.set_len(plan.len);
     match (named(raw, None, plan.node), nth_address(raw, nth)) {
         (Some(id), Some(addr)) => {
-            let is_followed = is_followed(raw, id, addr, plan.is_listed, reply)?;
-            Ok(is_followed && raw.len() == plan.len)
+            let is_followed = is_followed(raw, id, addr, plan.is_listed, reply);
+            is_followed && raw.len() == plan.len
         }
-        _ => Ok(false),
+        _ => false,
     }
 }
 
@@ -143,26 +143,26 @@ fn follow_each<C: ClearNodes<u64, u64>>(
     alloc: Global,
     plan: Plan<'_>,
     reply: &mut Reply,
-) -> Result<usize, AllocError> {
+) -> usize {
     let count = count_addresses(raw);
     let (mut first, mut now) = (Reply::new(alloc), Reply::new(alloc));
     for nth in 0..count {
         if plan.is_listed && nth > 0 {
-            reply.glue(",")?;
+            reply.glue(",");
         }
-        if !follow(raw, alloc, plan, nth, reply)? {
-            return Ok(nth);
+        if !follow(raw, alloc, plan, nth, reply) {
+            return nth;
         }
         now.clear();
-        shape(&mut now, raw)?;
+        shape(&mut now, raw);
         if nth == 0 {
-            shape(&mut first, raw)?;
+            shape(&mut first, raw);
         }
         if first.as_str() != now.as_str() {
-            return Ok(nth);
+            return nth;
         }
     }
-    Ok(count)
+    count
 }
 
 /// Builds the tree of a text anew for each of its addresses, and rebalances it with that address. The reply lists the addresses with those
@@ -173,22 +173,22 @@ pub(crate) fn rebalance_everywhere<C: ClearNodes<u64, u64>>(
     alloc: Global,
     plan: Plan<'_>,
     reply: &mut Reply,
-) -> Result<(), AllocError> {
-    if !build(raw, alloc, plan.text)? {
+) {
+    if !build(raw, alloc, plan.text) {
         return reply.word("not a tree");
     }
     let (count, nodes) = (count_addresses(raw), raw.node_count());
-    let followed = follow_each(raw, alloc, plan, reply)?;
+    let followed = follow_each(raw, alloc, plan, reply);
     if followed < count {
-        reply.word("lost")?;
+        reply.word("lost");
         return reply.count(followed);
     }
     if plan.is_listed {
-        return Ok(());
+        return;
     }
-    reply.count(count)?;
-    reply.word("addresses,")?;
-    reply.count(nodes)?;
-    reply.word("nodes to")?;
-    reply.count(raw.node_count())
+    reply.count(count);
+    reply.word("addresses,");
+    reply.count(nodes);
+    reply.word("nodes to");
+    reply.count(raw.node_count());
 }

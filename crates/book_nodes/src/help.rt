@@ -1,6 +1,5 @@
 //! The language of the lines.
 use book_text::Reply;
-use std::alloc::AllocError;
 
 const LINES: [&str; 27] = [
     "what the lines may say, a line for each group",
@@ -33,14 +32,13 @@ const LINES: [&str; 27] = [
 ];
 
 /// Adds what the lines may say.
-pub(crate) fn help(reply: &mut Reply) -> Result<(), AllocError> {
+pub(crate) fn help(reply: &mut Reply) {
     let mut is_first = true;
     for line in &LINES {
         if !is_first {
-            reply.line()?;
+            reply.line();
         }
         is_first = false;
-        reply.word(line)?;
+        reply.word(line);
     }
-    Ok(())
 }

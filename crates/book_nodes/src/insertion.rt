@@ -3,7 +3,6 @@ use book_node_calls::{Raw, objection, put_named};
 use book_text::Reply;
 use btree_item::{Address, Item, Offset, Refused};
 use btree_node::{Node, NodesMut};
-use std::alloc::AllocError;
 
 type Inserted = Result<Address, Refused<u64, u64>>;
 
@@ -65,22 +64,22 @@ fn put_in<C: NodesMut<u64, u64>>(
     item: Item<u64, u64>,
     child: Option<usize>,
     reply: &mut Reply,
-) -> Result<bool, AllocError> {
+) -> bool {
     if !raw.has_node(id) {
-        reply.word("no node")?;
-        return Ok(false);
+        reply.word("no node");
+        return false;
     }
     let node = raw.node_mut(id);
     if index > node.item_count() {
-        reply.word("not valid")?;
-        return Ok(false);
+        reply.word("not valid");
+        return false;
     }
     if let Some(objection) = objection(node, child) {
-        reply.word(objection)?;
-        return Ok(false);
+        reply.word(objection);
+        return false;
     }
     node.insert(Offset::from(index), item, child);
-    Ok(true)
+    true
 }
 
 fn put_outcome<C: NodesMut<u64, u64>>(
@@ -88,7 +87,7 @@ fn put_outcome<C: NodesMut<u64, u64>>(
     mark: Option<usize>,
     inserted: Option<Inserted>,
     reply: &mut Reply,
-) -> Result<(), AllocError> {
+) {
     match inserted {
         Some(Ok(at)) => put_named(reply, raw, mark, &at),
         Some(Err(refused)) => reply.refused_pair(refused.cause, refused.key, refused.value),
@@ -104,7 +103,7 @@ pub(crate) fn insert_exactly_at<C: NodesMut<u64, u64>>(
     item: Item<u64, u64>,
     child: Option<usize>,
     reply: &mut Reply,
-) -> Result<(), AllocError> {
+) {
     if addr.is_nowhere() {
         let inserted = insert_first(raw, item);
         return put_outcome(raw, mark, inserted, reply);
@@ -112,12 +111,12 @@ pub(crate) fn insert_exactly_at<C: NodesMut<u64, u64>>(
     let (id, Some(index)) = (addr.id, addr.offset.value()) else {
         return reply.word("not valid");
     };
-    if !put_in(raw, id, index, item, child, reply)? {
-        return Ok(());
+    if !put_in(raw, id, index, item, child, reply) {
+        return;
     }
     let inserted = match child {
         Some(_) => put_back_inner(raw, id, index),
         None => put_back(raw, id, Offset::from(index)),
     };
-    put_outcome(raw, mark, inserted, reply)
+    put_outcome(raw, mark, inserted, reply);
 }

@@ -12,14 +12,10 @@ use book_node_calls::{
 use book_text::{Reply, draw, number, put_node, shape, word};
 use btree_item::Address;
 use btree_node::{ClearNodes, NodesMut};
-use std::alloc::{AllocError, Global};
+use std::alloc::Global;
 
 // Adds the path of the marked node, or `none` if there is no such node.
-fn put_marked<C: NodesMut<u64, u64>>(
-    raw: &Raw<C>,
-    mark: Option<usize>,
-    reply: &mut Reply,
-) -> Result<(), AllocError> {
+fn put_marked<C: NodesMut<u64, u64>>(raw: &Raw<C>, mark: Option<usize>, reply: &mut Reply) {
     match mark {
         Some(id) if raw.has_node(id) => put_node(reply, raw, id),
         _ => reply.word("none"),
@@ -32,29 +28,29 @@ fn ask<C: NodesMut<u64, u64>>(
     mark: Option<usize>,
     verb: &str,
     reply: &mut Reply,
-) -> Result<bool, AllocError> {
+) -> bool {
     match verb {
-        "shape" => shape(reply, raw)?,
-        "counts" => put_counts(reply, raw)?,
-        "draw" => draw(reply, raw)?,
-        "len" => reply.count(raw.len())?,
-        "limit" => reply.count(raw.limit())?,
-        "nodes" => reply.count(raw.node_count())?,
+        "shape" => shape(reply, raw),
+        "counts" => put_counts(reply, raw),
+        "draw" => draw(reply, raw),
+        "len" => reply.count(raw.len()),
+        "limit" => reply.count(raw.limit()),
+        "nodes" => reply.count(raw.node_count()),
         "root_id" => match raw.root_id() {
-            Some(root) => put_node(reply, raw, root)?,
-            None => reply.word("none")?,
+            Some(root) => put_node(reply, raw, root),
+            None => reply.word("none"),
         },
-        "marked" => put_marked(raw, mark, reply)?,
-        "validate" => reply.validity(raw.validate())?,
-        _ => return Ok(false),
+        "marked" => put_marked(raw, mark, reply),
+        "validate" => reply.validity(raw.validate()),
+        _ => return false,
     }
-    Ok(true)
+    true
 }
 
 /// Adds `ok`, or that a text or a number was not taken.
-pub(crate) fn put_built(reply: &mut Reply, is_built: bool) -> Result<bool, AllocError> {
-    reply.word(if is_built { "ok" } else { "not built" })?;
-    Ok(true)
+pub(crate) fn put_built(reply: &mut Reply, is_built: bool) -> bool {
+    reply.word(if is_built { "ok" } else { "not built" });
+    true
 }
 
 // Serves a call that makes another tree, or sets what is not in a node.
@@ -64,10 +60,10 @@ fn serve_making<C: ClearNodes<u64, u64>>(
     verb: &str,
     rest: &str,
     reply: &mut Reply,
-) -> Result<bool, AllocError> {
+) -> bool {
     match (verb, number(rest)) {
         ("build", _) => {
-            let is_built = build(raw, alloc, rest)?;
+            let is_built = build(raw, alloc, rest);
             put_built(reply, is_built)
         }
         ("tower", Some(levels)) => {
@@ -86,7 +82,7 @@ fn serve_making<C: ClearNodes<u64, u64>>(
             raw.clear();
             put_built(reply, true)
         }
-        _ => Ok(false),
+        _ => false,
     }
 }
 
@@ -97,24 +93,24 @@ fn serve_node_call<C: NodesMut<u64, u64>>(
     verb: &str,
     id: usize,
     reply: &mut Reply,
-) -> Result<bool, AllocError> {
+) -> bool {
     match verb {
-        "has_node" => reply.truth(raw.has_node(id))?,
-        "node" => put_node_at(raw, *mark, id, reply)?,
-        "is_off_by_one" => reply.truth(raw.is_off_by_one(id))?,
-        "release_node" => release_node(raw, *mark, id, reply)?,
-        "remove_rightmost_leaf_of" => remove_rightmost_leaf_of(raw, *mark, id, reply)?,
+        "has_node" => reply.truth(raw.has_node(id)),
+        "node" => put_node_at(raw, *mark, id, reply),
+        "is_off_by_one" => reply.truth(raw.is_off_by_one(id)),
+        "release_node" => release_node(raw, *mark, id, reply),
+        "remove_rightmost_leaf_of" => remove_rightmost_leaf_of(raw, *mark, id, reply),
         "set_root_id" => {
             raw.set_root_id(Some(id));
-            reply.word("ok")?
+            reply.word("ok")
         }
         "mark" => {
             *mark = Some(id);
-            reply.word("ok")?
+            reply.word("ok")
         }
-        _ => return Ok(false),
+        _ => return false,
     }
-    Ok(true)
+    true
 }
 
 // Serves a comparison of a node with the parent and the separators that a text names.
@@ -124,14 +120,14 @@ fn serve_validation<C: NodesMut<u64, u64>>(
     id: usize,
     text: &str,
     reply: &mut Reply,
-) -> Result<bool, AllocError> {
+) -> bool {
     let (parent, rest) = word(text);
     let (Some(parent), Some((min, max))) = (named_or_none(raw, mark, parent), read_separators(rest))
     else {
-        return Ok(false);
+        return false;
     };
-    validate_node(raw, id, parent, min, max, reply)?;
-    Ok(true)
+    validate_node(raw, id, parent, min, max, reply);
+    true
 }
 
 // Serves a call of a node and of more words.
@@ -142,24 +138,24 @@ fn serve_node_words<C: NodesMut<u64, u64>>(
     id: usize,
     more: &str,
     reply: &mut Reply,
-) -> Result<bool, AllocError> {
+) -> bool {
     match verb {
         "set_parent" => match named_or_none(raw, mark, more) {
-            Some(parent) => set_parent(raw, id, parent, reply)?,
-            None => return Ok(false),
+            Some(parent) => set_parent(raw, id, parent, reply),
+            None => return false,
         },
         "rebalance" => match named_address(raw, mark, more) {
-            Some(addr) => rebalance(raw, mark, id, addr, reply)?,
-            None => return Ok(false),
+            Some(addr) => rebalance(raw, mark, id, addr, reply),
+            None => return false,
         },
         "node_mut" => match read_node(raw, mark, more) {
-            Some(node) => write_node(raw, id, node, reply)?,
-            None => return Ok(false),
+            Some(node) => write_node(raw, id, node, reply),
+            None => return false,
         },
         "validate_node" => return serve_validation(raw, mark, id, more, reply),
-        _ => return Ok(false),
+        _ => return false,
     }
-    Ok(true)
+    true
 }
 
 // Serves a call of an address alone.
@@ -169,15 +165,15 @@ fn serve_address<C: NodesMut<u64, u64>>(
     verb: &str,
     addr: Address,
     reply: &mut Reply,
-) -> Result<bool, AllocError> {
+) -> bool {
     match verb {
-        "is_valid" => reply.truth(raw.is_valid(addr))?,
-        "item" => put_item(reply, raw.item(addr))?,
-        "place" => put_place(raw, addr, reply)?,
-        "print" => print(alloc, addr, reply)?,
-        _ => return Ok(false),
+        "is_valid" => reply.truth(raw.is_valid(addr)),
+        "item" => put_item(reply, raw.item(addr)),
+        "place" => put_place(raw, addr, reply),
+        "print" => print(alloc, addr, reply),
+        _ => return false,
     }
-    Ok(true)
+    true
 }
 
 // Serves an insertion at exactly an address of what a text names.
@@ -187,21 +183,21 @@ fn serve_insertion<C: NodesMut<u64, u64>>(
     addr: Address,
     text: &str,
     reply: &mut Reply,
-) -> Result<bool, AllocError> {
+) -> bool {
     let (item, child) = word(text);
     let Some(item) = read_item(item) else {
-        return Ok(false);
+        return false;
     };
     if child == "" {
-        insert_exactly_at(raw, mark, addr, item, None, reply)?;
-        return Ok(true);
+        insert_exactly_at(raw, mark, addr, item, None, reply);
+        return true;
     }
     match named(raw, mark, child) {
         Some(child) => {
-            insert_exactly_at(raw, mark, addr, item, Some(child), reply)?;
-            Ok(true)
+            insert_exactly_at(raw, mark, addr, item, Some(child), reply);
+            true
         }
-        None => Ok(false),
+        None => false,
     }
 }
 
@@ -212,7 +208,7 @@ fn serve_everywhere<C: ClearNodes<u64, u64>>(
     rest: &str,
     is_listed: bool,
     reply: &mut Reply,
-) -> Result<bool, AllocError> {
+) -> bool {
     let (node, text) = word(rest);
     let plan = Plan {
         node,
@@ -220,8 +216,8 @@ fn serve_everywhere<C: ClearNodes<u64, u64>>(
         len: raw.len(),
         is_listed,
     };
-    rebalance_everywhere(raw, alloc, plan, reply)?;
-    Ok(true)
+    rebalance_everywhere(raw, alloc, plan, reply);
+    true
 }
 
 // Serves a call that names a node or an address first.
@@ -232,7 +228,7 @@ fn serve_at<C: NodesMut<u64, u64>>(
     verb: &str,
     rest: &str,
     reply: &mut Reply,
-) -> Result<bool, AllocError> {
+) -> bool {
     let (first, more) = word(rest);
     if let Some(id) = named(raw, *mark, first) {
         if more == "" {
@@ -245,7 +241,7 @@ fn serve_at<C: NodesMut<u64, u64>>(
         Some(addr) if verb == "insert_exactly_at" => {
             serve_insertion(raw, *mark, addr, more, reply)
         }
-        _ => Ok(false),
+        _ => false,
     }
 }
 
@@ -256,21 +252,21 @@ pub(crate) fn serve_raw<C: ClearNodes<u64, u64>>(
     alloc: Global,
     words: &str,
     reply: &mut Reply,
-) -> Result<bool, AllocError> {
+) -> bool {
     let (verb, rest) = word(words);
-    if rest == "" && ask(raw, *mark, verb, reply)? {
-        return Ok(true);
+    if rest == "" && ask(raw, *mark, verb, reply) {
+        return true;
     }
-    if serve_making(raw, alloc, verb, rest, reply)? {
-        return Ok(true);
+    if serve_making(raw, alloc, verb, rest, reply) {
+        return true;
     }
     match verb {
         "allocate_node" => match read_node(raw, *mark, rest) {
             Some(node) => {
-                allocate_node(raw, mark, node, reply)?;
-                Ok(true)
+                allocate_node(raw, mark, node, reply);
+                true
             }
-            None => Ok(false),
+            None => false,
         },
         "set_root_id" if rest == "none" => {
             raw.set_root_id(None);

@@ -8,7 +8,7 @@ use book_node_calls::{PlainNode, Raw, put_item, put_name, put_named, put_node_of
 use book_text::{Reply, place};
 use btree_item::{Address, Cause};
 use btree_node::NodesMut;
-use std::alloc::{AllocError, Global};
+use std::alloc::Global;
 
 /// Adds a node by its text.
 pub(crate) fn put_node_at<C: NodesMut<u64, u64>>(
@@ -16,11 +16,11 @@ pub(crate) fn put_node_at<C: NodesMut<u64, u64>>(
     mark: Option<usize>,
     id: usize,
     reply: &mut Reply,
-) -> Result<(), AllocError> {
+) {
     if !raw.has_node(id) {
         return reply.word("no node");
     }
-    put_node_of(reply, raw, mark, raw.node(id))
+    put_node_of(reply, raw, mark, raw.node(id));
 }
 
 // Returns whether each child of a node is in use.
@@ -41,7 +41,7 @@ pub(crate) fn allocate_node<C: NodesMut<u64, u64>>(
     mark: &mut Option<usize>,
     node: PlainNode,
     reply: &mut Reply,
-) -> Result<(), AllocError> {
+) {
     if !are_used(raw, &node) {
         return reply.word("no node");
     }
@@ -51,7 +51,7 @@ pub(crate) fn allocate_node<C: NodesMut<u64, u64>>(
             reply.word("ok")
         }
         Err(node) => {
-            reply.word("refused")?;
+            reply.word("refused");
             put_node_of(reply, raw, *mark, &node)
         }
     }
@@ -63,12 +63,12 @@ pub(crate) fn release_node<C: NodesMut<u64, u64>>(
     mark: Option<usize>,
     id: usize,
     reply: &mut Reply,
-) -> Result<(), AllocError> {
+) {
     if !raw.has_node(id) {
         return reply.word("no node");
     }
     let node = raw.release_node(id);
-    put_node_of(reply, raw, mark, &node)
+    put_node_of(reply, raw, mark, &node);
 }
 
 /// Sets the parent of a node.
@@ -77,12 +77,12 @@ pub(crate) fn set_parent<C: NodesMut<u64, u64>>(
     id: usize,
     parent: Option<usize>,
     reply: &mut Reply,
-) -> Result<(), AllocError> {
+) {
     if !raw.has_node(id) {
         return reply.word("no node");
     }
     raw.node_mut(id).set_parent(parent);
-    reply.word("ok")
+    reply.word("ok");
 }
 
 /// Writes another node in place of one.
@@ -91,12 +91,12 @@ pub(crate) fn write_node<C: NodesMut<u64, u64>>(
     id: usize,
     node: PlainNode,
     reply: &mut Reply,
-) -> Result<(), AllocError> {
+) {
     if !raw.has_node(id) {
         return reply.word("no node");
     }
     *raw.node_mut(id) = node;
-    reply.word("ok")
+    reply.word("ok");
 }
 
 /// Rebalances a tree at a node, and adds the address that is answered.
@@ -106,7 +106,7 @@ pub(crate) fn rebalance<C: NodesMut<u64, u64>>(
     id: usize,
     addr: Address,
     reply: &mut Reply,
-) -> Result<(), AllocError> {
+) {
     if !raw.is_off_by_one(id) {
         return reply.word("not off by one");
     }
@@ -125,7 +125,7 @@ pub(crate) fn remove_rightmost_leaf_of<C: NodesMut<u64, u64>>(
     mark: Option<usize>,
     id: usize,
     reply: &mut Reply,
-) -> Result<(), AllocError> {
+) {
     if raw.validate().is_err() {
         return reply.word("not valid");
     }
@@ -133,8 +133,8 @@ pub(crate) fn remove_rightmost_leaf_of<C: NodesMut<u64, u64>>(
         return reply.word("no node");
     }
     let (item, leaf) = raw.remove_rightmost_leaf_of(id);
-    put_item(reply, Some(&item))?;
-    put_name(reply, raw, mark, leaf)
+    put_item(reply, Some(&item));
+    put_name(reply, raw, mark, leaf);
 }
 
 /// Compares a node with the parent and the separators that are expected, and adds how many levels are below it.
@@ -145,7 +145,7 @@ pub(crate) fn validate_node<C: NodesMut<u64, u64>>(
     min: Option<u64>,
     max: Option<u64>,
     reply: &mut Reply,
-) -> Result<(), AllocError> {
+) {
     match raw.validate_node(id, parent, min.as_ref(), max.as_ref()) {
         Ok(depth) => reply.count(depth),
         Err(fault) => reply.validity(Err(fault)),
@@ -153,19 +153,17 @@ pub(crate) fn validate_node<C: NodesMut<u64, u64>>(
 }
 
 /// Adds the place of an address, counted by a walk.
-pub(crate) fn put_place<C: NodesMut<u64, u64>>(
-    raw: &Raw<C>,
-    addr: Address,
-    reply: &mut Reply,
-) -> Result<(), AllocError> {
+pub(crate) fn put_place<C: NodesMut<u64, u64>>(raw: &Raw<C>, addr: Address, reply: &mut Reply) {
     if !raw.is_valid(addr) {
         return reply.word("not valid");
     }
-    reply.number(place(raw, addr.id, addr.offset))
+    reply.number(place(raw, addr.id, addr.offset));
 }
 
 /// Adds an address as it prints itself.
-pub(crate) fn print(alloc: Global, addr: Address, reply: &mut Reply) -> Result<(), AllocError> {
-    let text = format!(in alloc; "{addr}")?;
-    reply.word(text.as_str())
+pub(crate) fn print(alloc: Global, addr: Address, reply: &mut Reply) {
+    let text = format!(in alloc; "{addr}");
+    if let Some(text) = reply.granted(text) {
+        reply.word(text.as_str());
+    }
 }

@@ -11,34 +11,26 @@ use std::alloc::{AllocError, Global};
 pub(crate) type Map<C> = BTreeMap<u64, u64, C>;
 
 /// Adds the list of a map.
-pub(crate) fn list<C: NodesMut<u64, u64>>(
-    map: &Map<C>,
-    reply: &mut Reply,
-) -> Result<(), AllocError> {
+pub(crate) fn list<C: NodesMut<u64, u64>>(map: &Map<C>, reply: &mut Reply) {
     if map.is_empty() {
         return reply.word("empty");
     }
     for (key, value) in map.iter() {
-        reply.pair(*key, *value)?;
+        reply.pair(*key, *value);
     }
-    Ok(())
 }
 
 // Serves a call that changes nothing.
-fn ask<C: NodesMut<u64, u64>>(
-    map: &Map<C>,
-    verb: &str,
-    reply: &mut Reply,
-) -> Result<bool, AllocError> {
+fn ask<C: NodesMut<u64, u64>>(map: &Map<C>, verb: &str, reply: &mut Reply) -> bool {
     match verb {
-        "list" => list(map, reply)?,
-        "shape" => shape(reply, map.as_raw())?,
-        "nodes" => reply.count(map.node_count())?,
-        "len" => reply.count(map.len())?,
-        "validate" => reply.validity(map.validate())?,
-        _ => return Ok(false),
+        "list" => list(map, reply),
+        "shape" => shape(reply, map.as_raw()),
+        "nodes" => reply.count(map.node_count()),
+        "len" => reply.count(map.len()),
+        "validate" => reply.validity(map.validate()),
+        _ => return false,
     }
-    Ok(true)
+    true
 }
 
 fn run_commands<C: ClearNodes<u64, u64>>(
@@ -52,7 +44,7 @@ fn run_commands<C: ClearNodes<u64, u64>>(
     };
     let mut replies: Vec<btree_session::Reply> = Vec::new(alloc);
     run(session, commands.as_slice(), &mut replies)?;
-    put_replies(reply, replies.as_slice())?;
+    put_replies(reply, replies.as_slice());
     Ok(true)
 }
 
@@ -61,14 +53,15 @@ fn drive_lines<C: ClearNodes<u64, u64>>(
     alloc: Global,
     text: &str,
     reply: &mut Reply,
-) -> Result<bool, AllocError> {
-    let Some(lines) = read_lines(alloc, text)? else {
-        return Ok(false);
+) -> bool {
+    let lines = read_lines(alloc, text);
+    let Some(Some(lines)) = reply.granted(lines) else {
+        return false;
     };
     let (mut input, mut output) = (lines.as_slice(), Vec::new(alloc));
     let end = drive(alloc, session, &mut input, &mut output);
-    put_written(reply, output.as_slice(), end)?;
-    Ok(true)
+    put_written(reply, output.as_slice(), end);
+    true
 }
 
 /// Serves a call of a session. Returns whether the words are one.
@@ -77,13 +70,16 @@ pub(crate) fn serve_session<C: ClearNodes<u64, u64>>(
     alloc: Global,
     words: &str,
     reply: &mut Reply,
-) -> Result<bool, AllocError> {
+) -> bool {
     let (verb, rest) = word(words);
     match verb {
-        "run" => run_commands(session, alloc, rest, reply),
+        "run" => {
+            let done = run_commands(session, alloc, rest, reply);
+            reply.granted(done).unwrap_or(false)
+        }
         "drive" => drive_lines(session, alloc, rest, reply),
         _ if rest == "" => ask(session.map(), verb, reply),
-        _ => Ok(false),
+        _ => false,
     }
 }
 
@@ -98,7 +94,7 @@ fn take_steps<C: NodesMut<u64, u64>>(
     };
     let mut replies: Vec<btree_session::Reply> = Vec::new(alloc);
     run_cursor(map, steps.as_slice(), &mut replies)?;
-    put_replies(reply, replies.as_slice())?;
+    put_replies(reply, replies.as_slice());
     Ok(true)
 }
 
@@ -108,11 +104,14 @@ pub(crate) fn serve_cursor<C: NodesMut<u64, u64>>(
     alloc: Global,
     words: &str,
     reply: &mut Reply,
-) -> Result<bool, AllocError> {
+) -> bool {
     let (verb, rest) = word(words);
     match verb {
-        "run" => take_steps(map, alloc, rest, reply),
+        "run" => {
+            let done = take_steps(map, alloc, rest, reply);
+            reply.granted(done).unwrap_or(false)
+        }
         _ if rest == "" => ask(map, verb, reply),
-        _ => Ok(false),
+        _ => false,
     }
 }

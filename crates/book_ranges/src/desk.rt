@@ -2,7 +2,6 @@
 use crate::help::help;
 use crate::things::{Thing, serve_thing};
 use book_text::{Desk, Reply, word};
-use std::alloc::AllocError;
 
 /// A set and a map of ranges, and from what their stores are made.
 #[derive(Drop)]
@@ -36,25 +35,25 @@ where
     R::Origin: Copy,
     M::Origin: Copy,
 {
-    fn call(&mut self, words: &str, reply: &mut Reply) -> Result<bool, AllocError> {
+    fn call(&mut self, words: &str, reply: &mut Reply) -> bool {
         let (name, rest) = word(words);
         let origins = self.origins;
         match name {
             "r" => return serve_thing(origins.0, &mut self.r, rest, reply),
             "m" => return serve_thing(origins.1, &mut self.m, rest, reply),
-            "help" if rest == "" => help(reply)?,
+            "help" if rest == "" => help(reply),
             "new" if rest == "" => {
                 self.r = R::empty(origins.0);
                 self.m = M::empty(origins.1);
-                reply.word("ok")?
+                reply.word("ok")
             }
-            _ => return Ok(false),
+            _ => return false,
         }
-        Ok(true)
+        true
     }
 
-    fn content(&self, reply: &mut Reply) -> Result<(), AllocError> {
-        self.r.put(reply)?;
-        self.m.put(reply)
+    fn content(&self, reply: &mut Reply) {
+        self.r.put(reply);
+        self.m.put(reply);
     }
 }

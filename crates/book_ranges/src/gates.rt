@@ -6,7 +6,7 @@ use btree_node::Node;
 use btree_range_map::{RangeMap, Span};
 use btree_range_set::RangeSet;
 use btree_store::{SlabMut, SlabStore};
-use std::alloc::{AllocError, Global};
+use std::alloc::Global;
 
 type SetStore = SlabStore<Node<u64, u64>>;
 
@@ -58,7 +58,7 @@ pub(crate) fn make_gates<R: Gated + Drop, M: Gated + Drop>(alloc: Global) -> Gat
 }
 
 impl<R: Gated + Drop, M: Gated + Drop> Desk for Gates<R, M> {
-    fn call(&mut self, words: &str, reply: &mut Reply) -> Result<bool, AllocError> {
+    fn call(&mut self, words: &str, reply: &mut Reply) -> bool {
         let (name, rest) = word(words);
         match (name, number(rest)) {
             ("r", _) => self.r.serve(rest, reply),
@@ -66,15 +66,15 @@ impl<R: Gated + Drop, M: Gated + Drop> Desk for Gates<R, M> {
             ("new", Some(refuses_at)) => {
                 self.r = R::gated(self.alloc, refuses_at as usize);
                 self.m = M::gated(self.alloc, refuses_at as usize);
-                reply.word("ok")?;
-                Ok(true)
+                reply.word("ok");
+                true
             }
-            _ => Ok(false),
+            _ => false,
         }
     }
 
-    fn content(&self, reply: &mut Reply) -> Result<(), AllocError> {
-        self.r.put(reply)?;
-        self.m.put(reply)
+    fn content(&self, reply: &mut Reply) {
+        self.r.put(reply);
+        self.m.put(reply);
     }
 }

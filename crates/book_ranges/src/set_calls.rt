@@ -3,28 +3,23 @@ use crate::ranges::{put_outcome, put_range, put_ranges, walk_ranges};
 use book_text::{Reply, number, word};
 use btree_node::{ClearNodes, NodesMut};
 use btree_range_set::RangeSet;
-use std::alloc::AllocError;
 
-fn whole<C: ClearNodes<u64, u64>>(
-    set: &mut RangeSet<C>,
-    verb: &str,
-    reply: &mut Reply,
-) -> Result<bool, AllocError> {
+fn whole<C: ClearNodes<u64, u64>>(set: &mut RangeSet<C>, verb: &str, reply: &mut Reply) -> bool {
     match verb {
-        "len" => reply.count(set.len())?,
-        "is_empty" => reply.truth(set.is_empty())?,
-        "nodes" => reply.count(set.store().len())?,
-        "list" => put_ranges(set.iter(), reply)?,
-        "debug" => reply.shown(set)?,
-        "first" => put_range(set.first(), reply)?,
-        "last" => put_range(set.last(), reply)?,
+        "len" => reply.count(set.len()),
+        "is_empty" => reply.truth(set.is_empty()),
+        "nodes" => reply.count(set.store().len()),
+        "list" => put_ranges(set.iter(), reply),
+        "debug" => reply.shown(set),
+        "first" => put_range(set.first(), reply),
+        "last" => put_range(set.last(), reply),
         "clear" => {
             set.clear();
-            reply.word("ok")?
+            reply.word("ok")
         }
-        _ => return Ok(false),
+        _ => return false,
     }
-    Ok(true)
+    true
 }
 
 fn by_number<C: NodesMut<u64, u64>>(
@@ -32,13 +27,13 @@ fn by_number<C: NodesMut<u64, u64>>(
     verb: &str,
     number: u64,
     reply: &mut Reply,
-) -> Result<bool, AllocError> {
+) -> bool {
     match verb {
-        "contains" => reply.truth(set.contains(number))?,
-        "get" => put_range(set.get(number), reply)?,
-        _ => return Ok(false),
+        "contains" => reply.truth(set.contains(number)),
+        "get" => put_range(set.get(number), reply),
+        _ => return false,
     }
-    Ok(true)
+    true
 }
 
 fn by_numbers<C: NodesMut<u64, u64>>(
@@ -47,16 +42,16 @@ fn by_numbers<C: NodesMut<u64, u64>>(
     start: u64,
     end: u64,
     reply: &mut Reply,
-) -> Result<bool, AllocError> {
+) -> bool {
     match verb {
-        "insert" => put_outcome(set.insert(start, end), reply)?,
-        "remove" => put_outcome(set.remove(start, end), reply)?,
-        "overlaps" => reply.truth(set.overlaps(start, end))?,
-        "gaps" => put_ranges(set.gaps(start, end), reply)?,
-        "count" => reply.number(set.count(start, end))?,
-        _ => return Ok(false),
+        "insert" => put_outcome(set.insert(start, end), reply),
+        "remove" => put_outcome(set.remove(start, end), reply),
+        "overlaps" => reply.truth(set.overlaps(start, end)),
+        "gaps" => put_ranges(set.gaps(start, end), reply),
+        "count" => reply.number(set.count(start, end)),
+        _ => return false,
     }
-    Ok(true)
+    true
 }
 
 // Serves a call with two numbers, and with ends or a size.
@@ -67,18 +62,18 @@ fn between<C: NodesMut<u64, u64>>(
     end: u64,
     rest: &str,
     reply: &mut Reply,
-) -> Result<bool, AllocError> {
+) -> bool {
     if verb == "overlapping" {
-        walk_ranges(set.overlapping(start, end), rest, reply)?;
-        return Ok(true);
+        walk_ranges(set.overlapping(start, end), rest, reply);
+        return true;
     }
     match number(rest) {
         Some(size) if verb == "first_fit" => {
-            reply.value(set.first_fit(start, end, size))?;
-            Ok(true)
+            reply.value(set.first_fit(start, end, size));
+            true
         }
         None if rest == "" => by_numbers(set, verb, start, end, reply),
-        _ => Ok(false),
+        _ => false,
     }
 }
 
@@ -87,20 +82,20 @@ pub(crate) fn serve_set<C: ClearNodes<u64, u64>>(
     set: &mut RangeSet<C>,
     words: &str,
     reply: &mut Reply,
-) -> Result<bool, AllocError> {
+) -> bool {
     let (verb, rest) = word(words);
     if rest == "" {
         return whole(set, verb, reply);
     }
     if verb == "iter" {
-        walk_ranges(set.iter(), rest, reply)?;
-        return Ok(true);
+        walk_ranges(set.iter(), rest, reply);
+        return true;
     }
     let (first, rest) = word(rest);
     let (second, rest) = word(rest);
     match (number(first), number(second)) {
         (Some(number), None) => by_number(set, verb, number, reply),
         (Some(start), Some(end)) => between(set, verb, start, end, rest, reply),
-        _ => Ok(false),
+        _ => false,
     }
 }

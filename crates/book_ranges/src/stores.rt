@@ -1,6 +1,5 @@
 //! The stores that a line may open.
 use book_text::{Desk, Reply};
-use std::alloc::AllocError;
 
 /// Which store is open.
 #[derive(Clone, Copy)]
@@ -34,7 +33,7 @@ fn named(word: &str) -> Option<Open> {
 
 impl<S: Desk + Drop, T: Desk + Drop, O: Desk + Drop, G: Desk + Drop> Stores<S, T, O, G> {
     // Passes a call on to the desk over the open store.
-    fn pass(&mut self, words: &str, reply: &mut Reply) -> Result<bool, AllocError> {
+    fn pass(&mut self, words: &str, reply: &mut Reply) -> bool {
         match self.open {
             Open::Slab => self.slab.call(words, reply),
             Open::Table => self.table.call(words, reply),
@@ -45,22 +44,22 @@ impl<S: Desk + Drop, T: Desk + Drop, O: Desk + Drop, G: Desk + Drop> Stores<S, T
 }
 
 impl<S: Desk + Drop, T: Desk + Drop, O: Desk + Drop, G: Desk + Drop> Desk for Stores<S, T, O, G> {
-    fn call(&mut self, words: &str, reply: &mut Reply) -> Result<bool, AllocError> {
+    fn call(&mut self, words: &str, reply: &mut Reply) -> bool {
         let Some(store) = words.strip_prefix("open ") else {
             return self.pass(words, reply);
         };
         match named(store) {
             Some(open) => self.open = open,
-            None => return Ok(false),
+            None => return false,
         }
-        reply.word("ok")?;
-        Ok(true)
+        reply.word("ok");
+        true
     }
 
-    fn content(&self, reply: &mut Reply) -> Result<(), AllocError> {
-        self.slab.content(reply)?;
-        self.table.content(reply)?;
-        self.odd.content(reply)?;
-        self.gate.content(reply)
+    fn content(&self, reply: &mut Reply) {
+        self.slab.content(reply);
+        self.table.content(reply);
+        self.odd.content(reply);
+        self.gate.content(reply);
     }
 }

@@ -6,7 +6,6 @@ use book_text::{Reply, number, word};
 use btree_node::{ClearNodes, NodesMut};
 use btree_range_map::{RangeMap, Span};
 use btree_range_set::RangeSet;
-use std::alloc::AllocError;
 
 /// A set or a map of ranges.
 pub(crate) trait Thing: Sized {
@@ -20,10 +19,10 @@ pub(crate) trait Thing: Sized {
     fn limited(origin: Self::Origin, limit: usize) -> Self;
 
     /// Serves a call. Returns whether the words are one.
-    fn serve(&mut self, words: &str, reply: &mut Reply) -> Result<bool, AllocError>;
+    fn serve(&mut self, words: &str, reply: &mut Reply) -> bool;
 
     /// Adds its ranges, and how many nodes there are.
-    fn put(&self, reply: &mut Reply) -> Result<(), AllocError>;
+    fn put(&self, reply: &mut Reply);
 }
 
 impl<C: ClearNodes<u64, u64> + Drop> Thing for RangeSet<C> {
@@ -37,13 +36,13 @@ impl<C: ClearNodes<u64, u64> + Drop> Thing for RangeSet<C> {
         RangeSet::with_limit(origin, limit)
     }
 
-    fn serve(&mut self, words: &str, reply: &mut Reply) -> Result<bool, AllocError> {
+    fn serve(&mut self, words: &str, reply: &mut Reply) -> bool {
         serve_set(self, words, reply)
     }
 
-    fn put(&self, reply: &mut Reply) -> Result<(), AllocError> {
-        put_ranges(self.iter(), reply)?;
-        reply.count(self.store().len())
+    fn put(&self, reply: &mut Reply) {
+        put_ranges(self.iter(), reply);
+        reply.count(self.store().len());
     }
 }
 
@@ -58,13 +57,13 @@ impl<C: ClearNodes<u64, Span<u64>> + Drop> Thing for RangeMap<u64, C> {
         RangeMap::with_limit(origin, limit)
     }
 
-    fn serve(&mut self, words: &str, reply: &mut Reply) -> Result<bool, AllocError> {
+    fn serve(&mut self, words: &str, reply: &mut Reply) -> bool {
         serve_map(self, words, reply)
     }
 
-    fn put(&self, reply: &mut Reply) -> Result<(), AllocError> {
-        put_ranges(self.iter(), reply)?;
-        reply.count(self.store().len())
+    fn put(&self, reply: &mut Reply) {
+        put_ranges(self.iter(), reply);
+        reply.count(self.store().len());
     }
 }
 
@@ -74,7 +73,7 @@ pub(crate) fn serve_thing<T: Thing + Drop>(
     thing: &mut T,
     words: &str,
     reply: &mut Reply,
-) -> Result<bool, AllocError>
+) -> bool
 where
     T::Origin: Copy,
 {
@@ -82,8 +81,8 @@ where
     match (verb, number(rest)) {
         ("limited", Some(limit)) => {
             *thing = T::limited(origin, limit as usize);
-            reply.word("ok")?;
-            Ok(true)
+            reply.word("ok");
+            true
         }
         _ => thing.serve(words, reply),
     }

@@ -3,7 +3,7 @@ use crate::refusals::insist;
 use crate::repeats::each;
 use crate::words::{number, word};
 use crate::{Desk, Reply};
-use std::alloc::{AllocError, Global};
+use std::alloc::Global;
 use std::io::{BufRead, BufReader, ErrorKind, Read, Write};
 use std::{fmt, str};
 use test_support::Refusing;
@@ -52,12 +52,6 @@ impl fmt::Display for Ending {
     }
 }
 
-impl From<AllocError> for Ending {
-    fn from(_error: AllocError) -> Ending {
-        Ending::Memory
-    }
-}
-
 // Reads the next line without its end into a vector. Returns whether there is one.
 fn read_line<R: Read>(reader: &mut BufReader<R>, line: &mut Vec<u8>) -> Result<bool, Ending> {
     line.clear();
@@ -97,21 +91,21 @@ pub(crate) fn call<P: Desk, Q: Desk>(
     desks: &mut Desks<P, Q>,
     words: &str,
     reply: &mut Reply,
-) -> Result<bool, AllocError> {
+) -> bool {
     let (first, rest) = word(words);
     match (first, rest) {
         ("over", "slab") => desks.is_refusing = false,
         ("over", "refusing") => desks.is_refusing = true,
         ("refuse", _) => match number(rest) {
             Some(at) => memory.refuse(at),
-            None => return Ok(false),
+            None => return false,
         },
         ("insist", _) => return insist(alloc, memory, &mut desks.refusing, rest, reply),
         _ if desks.is_refusing => return desks.refusing.call(words, reply),
         _ => return desks.plain.call(words, reply),
     }
-    reply.word("ok")?;
-    Ok(true)
+    reply.word("ok");
+    true
 }
 
 fn first_line(text: &str) -> &str {
@@ -128,31 +122,40 @@ fn serve_call<P: Desk, Q: Desk>(
     desks: &mut Desks<P, Q>,
     line: &str,
     at: u64,
-    text: &mut String,
-) -> Result<Option<Ending>, AllocError> {
+    text: &mut Reply,
+) -> Option<Ending> {
     let (words, said) = match line.split_once(" -> ") {
         Some((words, said)) => (words, Some(said)),
         None => (line, None),
     };
     if said.is_some() {
-        text.push_str(words)?;
-        text.push_str(" -> ")?;
+        text.glue(words);
+        text.glue(" -> ");
     }
     let mut reply = Reply::new(alloc);
     let is_call = match words.strip_prefix("each ") {
-        Some(rest) => each(alloc, memory, desks, rest, &mut reply)?,
-        None => call(alloc, memory, desks, words, &mut reply)?,
+        Some(rest) => each(alloc, memory, desks, rest, &mut reply),
+        None => call(alloc, memory, desks, words, &mut reply),
     };
+    if text.note(&reply) {
+        return None;
+    }
     if !is_call || reply.is_unknown() {
-        writeln!(text, "not a call (line {at})")?;
-        return Ok(Some(Ending::NotACall(at)));
+        return not_a_call(at, text);
     }
-    text.push_str(reply.as_str())?;
-    text.push('\n')?;
+    text.glue(reply.as_str());
+    text.glue("\n");
     match said {
-        Some(said) if said != first_line(reply.as_str()) => Ok(Some(Ending::OtherReply(at))),
-        _ => Ok(None),
+        Some(said) if said != first_line(reply.as_str()) => Some(Ending::OtherReply(at)),
+        _ => None,
     }
+}
+
+fn not_a_call(at: u64, text: &mut Reply) -> Option<Ending> {
+    text.glue("not a call (line ");
+    text.glue_number(at);
+    text.glue(")\n");
+    Some(Ending::NotACall(at))
 }
 
 // Serves a line, and adds what is to be written to the text.
@@ -162,19 +165,18 @@ fn serve_line<P: Desk, Q: Desk>(
     desks: &mut Desks<P, Q>,
     line: &[u8],
     at: u64,
-    text: &mut String,
-) -> Result<Option<Ending>, AllocError> {
+    text: &mut Reply,
+) -> Option<Ending> {
     let Ok(line) = str::from_utf8(line) else {
-        writeln!(text, "not a call (line {at})")?;
-        return Ok(Some(Ending::NotACall(at)));
+        return not_a_call(at, text);
     };
     if line.starts_with('|') {
-        return Ok(None);
+        return None;
     }
     if line == "" || line.starts_with('#') {
-        text.push_str(line)?;
-        text.push('\n')?;
-        return Ok(None);
+        text.glue(line);
+        text.glue("\n");
+        return None;
     }
     serve_call(alloc, memory, desks, line, at, text)
 }
@@ -197,7 +199,7 @@ pub fn serve<P: Desk, Q: Desk, R: Read, W: Write>(
     let Ok(mut reader) = BufReader::new(alloc, input) else {
         return Err(Ending::Memory);
     };
-    let (mut line, mut text) = (Vec::new(alloc), String::new(alloc));
+    let (mut line, mut text) = (Vec::new(alloc), Reply::new(alloc));
     let mut first: Option<Ending> = None;
     for at in 1..u64::MAX {
         if !read_line(&mut reader, &mut line)? {
@@ -207,7 +209,10 @@ pub fn serve<P: Desk, Q: Desk, R: Read, W: Write>(
             };
         }
         text.clear();
-        let found = serve_line(alloc, memory, desks, line.as_slice(), at, &mut text)?;
+        let found = serve_line(alloc, memory, desks, line.as_slice(), at, &mut text);
+        if text.has_run_out() {
+            return Err(Ending::Memory);
+        }
         first = first.or(found);
         write_out(output, text.as_str())?;
     }

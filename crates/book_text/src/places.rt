@@ -4,7 +4,6 @@ use crate::words::number;
 use btree_item::{Address, Offset};
 use btree_node::{Node, NodesMut};
 use btree_raw::RawBTree;
-use std::alloc::AllocError;
 
 /// The most levels that a walk goes up or down.
 pub(crate) const LEVELS: usize = 32;
@@ -61,31 +60,27 @@ fn glue_node<C: NodesMut<u64, u64>>(
     raw: &RawBTree<u64, u64, C>,
     id: usize,
     levels: usize,
-) -> Result<(), AllocError> {
+) {
     if raw.root_id() == Some(id) {
         return reply.glue("T");
     }
     if levels > 0
         && let Some((above, index)) = parent(raw, id)
     {
-        glue_node(reply, raw, above, levels - 1)?;
+        glue_node(reply, raw, above, levels - 1);
         return reply.glue_number(index as u64);
     }
-    reply.glue("@")?;
-    reply.glue_number(id as u64)
+    reply.glue("@");
+    reply.glue_number(id as u64);
 }
 
 /// Adds a node to a reply: its path, or its number if it is not under the root.
-pub fn put_node<C: NodesMut<u64, u64>>(
-    reply: &mut Reply,
-    raw: &RawBTree<u64, u64, C>,
-    id: usize,
-) -> Result<(), AllocError> {
-    reply.word("")?;
-    glue_node(reply, raw, id, LEVELS)
+pub fn put_node<C: NodesMut<u64, u64>>(reply: &mut Reply, raw: &RawBTree<u64, u64, C>, id: usize) {
+    reply.word("");
+    glue_node(reply, raw, id, LEVELS);
 }
 
-fn glue_offset(reply: &mut Reply, offset: Offset) -> Result<(), AllocError> {
+fn glue_offset(reply: &mut Reply, offset: Offset) {
     match offset.value() {
         Some(index) => reply.glue_number(index as u64),
         None => reply.glue("-1"),
@@ -97,16 +92,16 @@ pub fn put_address<C: NodesMut<u64, u64>>(
     reply: &mut Reply,
     raw: &RawBTree<u64, u64, C>,
     addr: Option<Address>,
-) -> Result<(), AllocError> {
+) {
     let Some(addr) = addr else {
         return reply.word("none");
     };
     if addr.is_nowhere() {
         return reply.word("nowhere");
     }
-    put_node(reply, raw, addr.id)?;
-    reply.glue(":")?;
-    glue_offset(reply, addr.offset)
+    put_node(reply, raw, addr.id);
+    reply.glue(":");
+    glue_offset(reply, addr.offset);
 }
 
 // Returns how many items a node and the nodes under it have, on so many levels at most.

@@ -1,6 +1,6 @@
 //! A call whose memory is refused in turn.
 use crate::{Desk, Reply};
-use std::alloc::{AllocError, Global};
+use std::alloc::Global;
 use test_support::Refusing;
 
 // The most growths of one call that are refused in turn.
@@ -20,30 +20,33 @@ pub(crate) fn insist<D: Desk>(
     desk: &mut D,
     words: &str,
     reply: &mut Reply,
-) -> Result<bool, AllocError> {
+) -> bool {
     let mut before = Reply::new(alloc);
-    desk.content(&mut before)?;
+    desk.content(&mut before);
     for at in 1..MOST {
         let (mut said, mut after) = (Reply::new(alloc), Reply::new(alloc));
         memory.refuse(at);
-        let is_call = desk.call(words, &mut said)?;
+        let is_call = desk.call(words, &mut said);
         let was_refused = memory.refuses() == 0;
         memory.refuse(0);
         if !is_call {
-            return Ok(false);
+            return reply.note(&said);
         }
-        desk.content(&mut after)?;
+        desk.content(&mut after);
+        if reply.note(&before) || reply.note(&said) || reply.note(&after) {
+            return true;
+        }
         if !was_refused {
-            reply.word("kept")?;
-            reply.number(at.wrapping_sub(1))?;
-            reply.word(said.as_str())?;
-            return Ok(true);
+            reply.word("kept");
+            reply.number(at.wrapping_sub(1));
+            reply.word(said.as_str());
+            return true;
         }
         if !says_refused(said.as_str()) || before.as_str() != after.as_str() {
-            reply.word("changed")?;
-            reply.word(said.as_str())?;
-            return Ok(true);
+            reply.word("changed");
+            reply.word(said.as_str());
+            return true;
         }
     }
-    Ok(false)
+    false
 }

@@ -2,20 +2,19 @@
 use crate::lines::call;
 use crate::words::{number, word};
 use crate::{Desk, Desks, Reply};
-use std::alloc::{AllocError, Global};
+use std::alloc::Global;
 use test_support::Refusing;
 
 // Adds words to a line, with a number in place of each `#`.
-fn put_number(line: &mut String, words: &str, number: u64) -> Result<(), AllocError> {
+fn put_number(line: &mut Reply, words: &str, number: u64) {
     let mut is_first = true;
     for part in words.split('#') {
         if !is_first {
-            write!(line, "{number}")?;
+            line.glue_number(number);
         }
         is_first = false;
-        line.push_str(part)?;
+        line.glue(part);
     }
-    Ok(())
 }
 
 // Does the calls of a line, which have `; ` between them. The reply is that of the last one. Returns whether all are calls.
@@ -25,14 +24,14 @@ fn call_all<P: Desk, Q: Desk>(
     desks: &mut Desks<P, Q>,
     line: &str,
     reply: &mut Reply,
-) -> Result<bool, AllocError> {
+) -> bool {
     for words in line.split("; ") {
         reply.clear();
-        if !call(alloc, memory, desks, words, reply)? {
-            return Ok(false);
+        if !call(alloc, memory, desks, words, reply) {
+            return false;
         }
     }
-    Ok(true)
+    true
 }
 
 /// Returns the number that comes at an index, of the numbers below a count: from the last one down, or each so far after the one before,
@@ -55,37 +54,41 @@ pub(crate) fn each<P: Desk, Q: Desk>(
     desks: &mut Desks<P, Q>,
     words: &str,
     reply: &mut Reply,
-) -> Result<bool, AllocError> {
+) -> bool {
     let (count, rest) = word(words);
     let (step, calls) = word(rest);
     let Some(count) = number(count) else {
-        return Ok(false);
+        return false;
     };
-    let (mut line, mut first, mut all) = (String::new(alloc), Reply::new(alloc), Reply::new(alloc));
+    let (mut line, mut first, mut all) = (Reply::new(alloc), Reply::new(alloc), Reply::new(alloc));
     let mut is_same = true;
     for index in 0..count {
         let Some(number) = nth(index, count, step) else {
-            return Ok(false);
+            return false;
         };
         line.clear();
-        put_number(&mut line, calls, number)?;
+        put_number(&mut line, calls, number);
         let mut said = Reply::new(alloc);
-        if !call_all(alloc, memory, desks, line.as_str(), &mut said)? {
-            return Ok(false);
+        let are_calls = call_all(alloc, memory, desks, line.as_str(), &mut said);
+        if reply.note(&line) || reply.note(&said) || !are_calls {
+            return false;
         }
         if index == 0 {
-            first.word(said.as_str())?;
+            first.word(said.as_str());
         } else {
-            all.glue(",")?;
+            all.glue(",");
         }
         is_same = is_same && said.as_str() == first.as_str();
-        all.word(said.as_str())?;
+        all.word(said.as_str());
+    }
+    if reply.note(&first) || reply.note(&all) {
+        return false;
     }
     if is_same {
-        reply.word("always")?;
-        reply.word(first.as_str())?;
+        reply.word("always");
+        reply.word(first.as_str());
     } else {
-        reply.word(all.as_str())?;
+        reply.word(all.as_str());
     }
-    Ok(true)
+    true
 }

@@ -1,7 +1,6 @@
 //! Replies of each kind.
 use crate::Reply;
 use btree_item::{Cause, Fault};
-use std::alloc::AllocError;
 use std::cmp::Ordering;
 
 fn cause_word(cause: Cause) -> &'static str {
@@ -31,19 +30,19 @@ fn fault_word(fault: Fault) -> &'static str {
 
 impl Reply {
     /// Adds a count.
-    pub fn count(&mut self, count: usize) -> Result<(), AllocError> {
-        self.number(count as u64)
+    pub fn count(&mut self, count: usize) {
+        self.number(count as u64);
     }
 
     /// Adds a pair, as `3=30`.
-    pub fn pair(&mut self, key: u64, value: u64) -> Result<(), AllocError> {
-        self.number(key)?;
-        self.glue("=")?;
-        self.glue_number(value)
+    pub fn pair(&mut self, key: u64, value: u64) {
+        self.number(key);
+        self.glue("=");
+        self.glue_number(value);
     }
 
     /// Adds a number, or `none`.
-    pub fn value(&mut self, value: Option<u64>) -> Result<(), AllocError> {
+    pub fn value(&mut self, value: Option<u64>) {
         match value {
             Some(value) => self.number(value),
             None => self.word("none"),
@@ -51,7 +50,7 @@ impl Reply {
     }
 
     /// Adds a pair, or `none`.
-    pub fn found(&mut self, pair: Option<(u64, u64)>) -> Result<(), AllocError> {
+    pub fn found(&mut self, pair: Option<(u64, u64)>) {
         match pair {
             Some((key, value)) => self.pair(key, value),
             None => self.word("none"),
@@ -59,12 +58,12 @@ impl Reply {
     }
 
     /// Adds `true` or `false`.
-    pub fn truth(&mut self, is: bool) -> Result<(), AllocError> {
-        self.word(if is { "true" } else { "false" })
+    pub fn truth(&mut self, is: bool) {
+        self.word(if is { "true" } else { "false" });
     }
 
     /// Adds `less`, `equal` or `greater`.
-    pub fn order(&mut self, order: Ordering) -> Result<(), AllocError> {
+    pub fn order(&mut self, order: Ordering) {
         self.word(match order {
             Ordering::Less => "less",
             Ordering::Equal => "equal",
@@ -73,25 +72,25 @@ impl Reply {
     }
 
     /// Adds that a call was refused, and the cause.
-    pub fn refused(&mut self, cause: Cause) -> Result<(), AllocError> {
-        self.word("refused")?;
-        self.word(cause_word(cause))
+    pub fn refused(&mut self, cause: Cause) {
+        self.word("refused");
+        self.word(cause_word(cause));
     }
 
     /// Adds that a pair was refused, the cause and the pair.
-    pub fn refused_pair(&mut self, cause: Cause, key: u64, value: u64) -> Result<(), AllocError> {
-        self.refused(cause)?;
-        self.pair(key, value)
+    pub fn refused_pair(&mut self, cause: Cause, key: u64, value: u64) {
+        self.refused(cause);
+        self.pair(key, value);
     }
 
     /// Adds that a key was refused, the cause and the key.
-    pub fn refused_key(&mut self, cause: Cause, key: u64) -> Result<(), AllocError> {
-        self.refused(cause)?;
-        self.number(key)
+    pub fn refused_key(&mut self, cause: Cause, key: u64) {
+        self.refused(cause);
+        self.number(key);
     }
 
     /// Adds the name of a fault, or `ok`.
-    pub fn validity(&mut self, found: Result<(), Fault>) -> Result<(), AllocError> {
+    pub fn validity(&mut self, found: Result<(), Fault>) {
         match found {
             Ok(()) => self.word("ok"),
             Err(fault) => self.word(fault_word(fault)),
@@ -99,9 +98,9 @@ impl Reply {
     }
 
     /// Adds how many are left at least and at most.
-    pub fn hint(&mut self, hint: (usize, Option<usize>)) -> Result<(), AllocError> {
-        self.word("hint")?;
-        self.count(hint.0)?;
+    pub fn hint(&mut self, hint: (usize, Option<usize>)) {
+        self.word("hint");
+        self.count(hint.0);
         match hint.1 {
             Some(most) => self.count(most),
             None => self.word("none"),
@@ -109,14 +108,14 @@ impl Reply {
     }
 
     /// Adds how many are left.
-    pub fn left(&mut self, count: usize) -> Result<(), AllocError> {
-        self.word("left")?;
-        self.count(count)
+    pub fn left(&mut self, count: usize) {
+        self.word("left");
+        self.count(count);
     }
 
     /// Adds how many nodes are held, as `nodes 3`.
-    pub fn nodes(&mut self, count: usize) -> Result<(), AllocError> {
-        self.word("nodes")?;
-        self.count(count)
+    pub fn nodes(&mut self, count: usize) {
+        self.word("nodes");
+        self.count(count);
     }
 }
