@@ -124,12 +124,6 @@ fn asks_in<'a, C: NodesMut<Counted<'a>, u32> + Drop>(
     }
 }
 
-#[test]
-fn a_key_is_sought_once(rt: HostRuntime) {
-    let compared = Cell::new(0u32);
-    asks_in::<Store<'_>>(&rt, &compared, rt.alloc());
-}
-
 // Inserts a number where a cursor is. Returns how many comparisons that makes, or `None` if it does not fit there or is refused.
 fn inserts_at_cursor<'a, C: NodesMut<Counted<'a>, u32>>(
     compared: &'a Cell<u32>,
@@ -238,12 +232,6 @@ fn edits_in<'a, C: NodesMut<Counted<'a>, u32> + Drop>(
     }
 }
 
-#[test]
-fn entries_and_cursors_edit_without_comparisons(rt: HostRuntime) {
-    let compared = Cell::new(0u32);
-    edits_in::<Store<'_>>(&rt, &compared, rt.alloc());
-}
-
 // A map of the numbers from one up to another.
 fn numbers<'a, C: NodesMut<Counted<'a>, u32> + Drop>(
     rt: &impl Abort,
@@ -297,17 +285,6 @@ fn removes_range<'a, C: NodesMut<Counted<'a>, u32> + Drop>(
     };
     let made = remove_counted(&mut map, low..high, compared);
     (map.len(), made)
-}
-
-#[test]
-fn a_range_is_sought_once(rt: HostRuntime) {
-    for (range, left, most) in RANGES {
-        let compared = Cell::new(0u32);
-        let map = numbers::<Store<'_>>(&rt, &compared, rt.alloc(), (0, 44));
-        let (len, made) = removes_range(&compared, map, range);
-        assert_same_in(&rt, range.0, len, left);
-        assert_true_in(&rt, range.0, made <= most);
-    }
 }
 
 // Extends a map by the pairs of another one. Returns whether none was refused.
@@ -380,18 +357,6 @@ where
     assert_same(rt, extends(compared, &mut map, two, copies), Some(sum));
 }
 
-#[test]
-fn ascending_keys_are_compared_once(rt: HostRuntime) {
-    let compared = Cell::new(0u32);
-    extends_in::<Store<'_>>(&rt, &compared, rt.alloc(), false);
-}
-
-#[test]
-fn copied_keys_are_compared_once(rt: HostRuntime) {
-    let compared = Cell::new(0u32);
-    extends_in::<Store<'_>>(&rt, &compared, rt.alloc(), true);
-}
-
 // Makes a set of 44 ascending elements by 43 comparisons, and extends it by the next 44, by one each. Of two that are not above the last one,
 // the first makes one more than an insertion, and the other as many as an insertion.
 fn extends_set<'a, C: NodesMut<Counted<'a>, ()> + Drop>(
@@ -416,12 +381,6 @@ fn extends_set<'a, C: NodesMut<Counted<'a>, ()> + Drop>(
     let mut two = (30..32u32).map(move |number| Counted { number, compared });
     assert_true(rt, set.extend(&mut two).is_ok());
     assert_same(rt, compared.get(), sought.wrapping_add(1));
-}
-
-#[test]
-fn ascending_elements_are_compared_once(rt: HostRuntime) {
-    let compared = Cell::new(0u32);
-    extends_set::<SlabStore<Node<Counted<'_>, ()>>>(&rt, &compared, rt.alloc());
 }
 
 // Returns a set of the numbers from one up to another.
@@ -475,7 +434,23 @@ where
 }
 
 #[test]
-fn copied_elements_are_compared_once(rt: HostRuntime) {
+fn keys_are_compared_once(rt: HostRuntime) {
     let compared = Cell::new(0u32);
+    asks_in::<Store<'_>>(&rt, &compared, rt.alloc());
+    edits_in::<Store<'_>>(&rt, &compared, rt.alloc());
+    for (range, left, most) in RANGES {
+        let map = numbers::<Store<'_>>(&rt, &compared, rt.alloc(), (0, 44));
+        let (len, made) = removes_range(&compared, map, range);
+        assert_same_in(&rt, range.0, len, left);
+        assert_true_in(&rt, range.0, made <= most);
+    }
+    extends_in::<Store<'_>>(&rt, &compared, rt.alloc(), false);
+    extends_in::<Store<'_>>(&rt, &compared, rt.alloc(), true);
+}
+
+#[test]
+fn elements_are_compared_once(rt: HostRuntime) {
+    let compared = Cell::new(0u32);
+    extends_set::<SlabStore<Node<Counted<'_>, ()>>>(&rt, &compared, rt.alloc());
     copies_set::<SlabStore<Node<Counted<'_>, ()>>>(&rt, &compared, rt.alloc());
 }

@@ -3,7 +3,9 @@ use crate::asserts::{assert_same, assert_true};
 use crate::drops::{Counted, hundred};
 use btree_ext::BTreeExt;
 use btree_map::{BTreeMap, IntoIter};
-use btree_node::NodesMut;
+use btree_node::{Node, NodesMut};
+use btree_store::SlabStore;
+use std::alloc::Global;
 use std::cell::Cell;
 use std::process::Abort;
 
@@ -52,17 +54,6 @@ fn take_in_turns<'a, C: NodesMut<u64, Counted<'a>> + Drop>(
 }
 
 // From the front, from the back, and from both in turn with either first.
-#[test]
-fn gives_each_pair_once(rt: HostRuntime) {
-    for turns in [[true, true], [false, false], [true, false], [false, true]] {
-        let drops = Cell::new(0u64);
-        let Some(map) = hundred(rt.alloc(), &drops) else {
-            panic!(rt; "no memory")
-        };
-        take_in_turns(&rt, map, &drops, turns);
-    }
-}
-
 // Takes so many pairs of a hundred, in each step from the front or from the back as it is that step's turn, and drops the others.
 fn take_some<V: Drop, C: NodesMut<u64, V> + Drop>(
     rt: &impl Abort,
@@ -87,19 +78,6 @@ fn take_some<V: Drop, C: NodesMut<u64, V> + Drop>(
 }
 
 // After each number of pairs, from the front, from the back and from both in turn.
-#[test]
-fn drops_what_is_left(rt: HostRuntime) {
-    for taken in 0..101u64 {
-        for turns in [[true, true], [false, false], [true, false]] {
-            let drops = Cell::new(0u64);
-            let Some(map) = hundred(rt.alloc(), &drops) else {
-                panic!(rt; "no memory")
-            };
-            take_some(&rt, map, &drops, turns, taken);
-        }
-    }
-}
-
 // Takes so many of the odd keys that a drain picks, each of which is dropped, and drops the drain.
 fn take_odd<V: Drop, C: NodesMut<u64, V>>(
     rt: &impl Abort,
@@ -130,17 +108,6 @@ fn drain_and_retain<V: Drop, C: NodesMut<u64, V> + Drop>(
     assert_same(rt, drops.get(), 100);
 }
 
-#[test]
-fn drains_drop_what_they_take(rt: HostRuntime) {
-    for count in [0, 1, 25, 50] {
-        let drops = Cell::new(0u64);
-        let Some(map) = hundred(rt.alloc(), &drops) else {
-            panic!(rt; "no memory")
-        };
-        drain_and_retain(&rt, map, &drops, count);
-    }
-}
-
 // Sets a value by the entry of a key that is there, removes a range of ten keys, and drops what is left.
 fn set_and_remove<'a, C: NodesMut<u64, Counted<'a>> + Drop>(
     rt: &impl Abort,
@@ -160,15 +127,6 @@ fn set_and_remove<'a, C: NodesMut<u64, Counted<'a>> + Drop>(
     assert_same(rt, (drops.get(), map.len()), (12, 89));
     drop(map);
     assert_same(rt, drops.get(), 101);
-}
-
-#[test]
-fn entries_and_ranges_drop_what_they_replace(rt: HostRuntime) {
-    let drops = Cell::new(0u64);
-    let Some(map) = hundred(rt.alloc(), &drops) else {
-        panic!(rt; "no memory")
-    };
-    set_and_remove(&rt, map, &drops);
 }
 
 // Splits a map at a key, which drops nothing, and drops both parts.
@@ -191,11 +149,31 @@ fn split<'a, C: NodesMut<u64, Counted<'a>> + Drop>(
     assert_same(rt, drops.get(), 100);
 }
 
-#[test]
-fn a_split_map_drops_nothing(rt: HostRuntime) {
-    let drops = Cell::new(0u64);
-    let Some(map) = hundred(rt.alloc(), &drops) else {
+type HeapMap<'a> = BTreeMap<u64, Counted<'a>, SlabStore<Node<u64, Counted<'a>>>>;
+
+// Returns a map of a hundred values, of which none is dropped yet.
+fn fresh<'a>(rt: &impl Abort, alloc: Global, drops: &'a Cell<u64>) -> HeapMap<'a> {
+    drops.set(0);
+    let Some(map) = hundred(alloc, drops) else {
         panic!(rt; "no memory")
     };
-    split(&rt, map, rt.alloc(), &drops);
+    map
+}
+
+#[test]
+fn each_value_is_dropped_once(rt: HostRuntime) {
+    let drops = Cell::new(0u64);
+    for turns in [[true, true], [false, false], [true, false], [false, true]] {
+        take_in_turns(&rt, fresh(&rt, rt.alloc(), &drops), &drops, turns);
+    }
+    for taken in 0..101u64 {
+        for turns in [[true, true], [false, false], [true, false]] {
+            take_some(&rt, fresh(&rt, rt.alloc(), &drops), &drops, turns, taken);
+        }
+    }
+    for count in [0, 1, 25, 50] {
+        drain_and_retain(&rt, fresh(&rt, rt.alloc(), &drops), &drops, count);
+    }
+    set_and_remove(&rt, fresh(&rt, rt.alloc(), &drops), &drops);
+    split(&rt, fresh(&rt, rt.alloc(), &drops), rt.alloc(), &drops);
 }

@@ -123,11 +123,6 @@ fn put_equal<C: NodesMut<Named, u64> + Drop>(
     assert_same(rt, stored(&other, 1), Some(('e', 10)));
 }
 
-#[test]
-fn an_equal_key_stays_unless_it_is_replaced(rt: HostRuntime) {
-    put_equal::<MapStore>(&rt, BTreeMap::new(rt.alloc()), BTreeMap::new(rt.alloc()));
-}
-
 // Writes to the value of a key by its entry, and updates it.
 fn change_equal<C: NodesMut<Named, u64>>(rt: &impl Abort, map: &mut BTreeMap<Named, u64, C>) {
     let second = Named {
@@ -169,11 +164,6 @@ fn reach_equal<C: NodesMut<Named, u64> + Drop>(rt: &impl Abort, mut map: BTreeMa
     assert_same(rt, map.len(), 1);
 }
 
-#[test]
-fn an_equal_key_stays_when_it_is_reached(rt: HostRuntime) {
-    reach_equal::<MapStore>(&rt, BTreeMap::new(rt.alloc()));
-}
-
 // Makes a map of three pairs, of which two have equal keys.
 fn collect_equal<C: NodesMut<Named, u64> + Drop>(rt: &impl Abort, origin: C::Origin) {
     let names = [(1, 'a', 1), (2, 'a', 2), (1, 'b', 3)];
@@ -187,11 +177,6 @@ fn collect_equal<C: NodesMut<Named, u64> + Drop>(rt: &impl Abort, origin: C::Ori
         }
         Err(_) => panic!(rt; "refused"),
     }
-}
-
-#[test]
-fn the_first_of_equal_keys_stays_in_a_new_map(rt: HostRuntime) {
-    collect_equal::<MapStore>(&rt, rt.alloc());
 }
 
 // Inserts the numbers, each with the name, into a set that is empty, and returns it.
@@ -268,11 +253,6 @@ fn merge<C: NodesMut<Named, ()> + Drop>(
     check_symmetric(rt, &left, &right);
 }
 
-#[test]
-fn merges_take_the_stated_one(rt: HostRuntime) {
-    merge::<SetStore>(&rt, BTreeSet::new(rt.alloc()), BTreeSet::new(rt.alloc()));
-}
-
 // Inserts and replaces an element that is equal to one of a set.
 fn insert_equal<C: NodesMut<Named, ()>>(rt: &impl Abort, set: &mut BTreeSet<Named, C>) {
     let second = Named {
@@ -314,11 +294,6 @@ fn append_equal<C: NodesMut<Named, ()> + Drop>(
     assert_same(rt, parts(set.last()), Some((3, 'c')));
 }
 
-#[test]
-fn an_equal_element_stays_unless_it_is_replaced(rt: HostRuntime) {
-    append_equal::<SetStore>(&rt, BTreeSet::new(rt.alloc()), BTreeSet::new(rt.alloc()));
-}
-
 // Adds elements of which some are equal to those of a set, and takes and removes others by equal ones.
 fn take_equal<C: NodesMut<Named, ()> + Drop>(rt: &impl Abort, set: BTreeSet<Named, C>) {
     let mut set = names(rt, set, &[1, 2, 3], 'a');
@@ -338,6 +313,15 @@ fn take_equal<C: NodesMut<Named, ()> + Drop>(rt: &impl Abort, set: BTreeSet<Name
 }
 
 #[test]
-fn an_equal_element_stays_when_others_are_added(rt: HostRuntime) {
+fn an_equal_key_stays_unless_it_is_replaced(rt: HostRuntime) {
+    put_equal::<MapStore>(&rt, BTreeMap::new(rt.alloc()), BTreeMap::new(rt.alloc()));
+    reach_equal::<MapStore>(&rt, BTreeMap::new(rt.alloc()));
+    collect_equal::<MapStore>(&rt, rt.alloc());
+}
+
+#[test]
+fn an_equal_element_stays_unless_it_is_replaced(rt: HostRuntime) {
+    merge::<SetStore>(&rt, BTreeSet::new(rt.alloc()), BTreeSet::new(rt.alloc()));
+    append_equal::<SetStore>(&rt, BTreeSet::new(rt.alloc()), BTreeSet::new(rt.alloc()));
     take_equal::<SetStore>(&rt, BTreeSet::new(rt.alloc()));
 }

@@ -50,12 +50,6 @@ fn look_up_each<C: NodesMut<u64, u64> + Drop>(rt: &impl Abort, origin: C::Origin
     }
 }
 
-#[test]
-fn a_look_up_fetches_a_node_of_each_level(rt: HostRuntime) {
-    let asked = Asked::new();
-    look_up_each::<Store<'_, u64>>(&rt, (rt.alloc(), &asked), &asked);
-}
-
 // Takes 44 items from one end of an iterator, and no other is there. A leaf has four items: the steps to its second one and on, up to the
 // place `last` of it, ask for no node.
 fn walk<I: DoubleEndedIterator + Drop>(
@@ -115,13 +109,6 @@ fn walk_set<C: NodesMut<u64, ()> + Drop>(rt: &impl Abort, origin: C::Origin, ask
     }
 }
 
-#[test]
-fn a_walk_from_the_front_fetches_each_node_once(rt: HostRuntime) {
-    let asked = Asked::new();
-    walk_map::<Store<'_, u64>>(&rt, (rt.alloc(), &asked), &asked);
-    walk_set::<Store<'_, ()>>(&rt, (rt.alloc(), &asked), &asked);
-}
-
 // A step that begins at a leaf and leaves an item there reads no node. The one that takes the last item goes up, to free the leaf.
 fn consume<C: NodesMut<u64, u64> + Drop>(
     rt: &impl Abort,
@@ -132,13 +119,6 @@ fn consume<C: NodesMut<u64, u64> + Drop>(
     let map = first_keys::<C>(rt, origin, 44);
     asked.restart();
     walk(rt, map.into_iter(), is_back, 2, asked);
-}
-
-#[test]
-fn a_consuming_step_inside_a_leaf_reads_no_node(rt: HostRuntime) {
-    let asked = Asked::new();
-    consume::<Store<'_, u64>>(&rt, (rt.alloc(), &asked), false, &asked);
-    consume::<Store<'_, u64>>(&rt, (rt.alloc(), &asked), true, &asked);
 }
 
 // A cursor that began before the first pair knows how many are left, also after an insertion: it reads no node for it.
@@ -156,7 +136,12 @@ fn count_left<C: NodesMut<u64, u64> + Drop>(rt: &impl Abort, origin: C::Origin, 
 }
 
 #[test]
-fn a_cursor_that_inserted_counts_what_is_left(rt: HostRuntime) {
+fn a_call_fetches_few_nodes(rt: HostRuntime) {
     let asked = Asked::new();
+    look_up_each::<Store<'_, u64>>(&rt, (rt.alloc(), &asked), &asked);
+    walk_map::<Store<'_, u64>>(&rt, (rt.alloc(), &asked), &asked);
+    consume::<Store<'_, u64>>(&rt, (rt.alloc(), &asked), false, &asked);
+    consume::<Store<'_, u64>>(&rt, (rt.alloc(), &asked), true, &asked);
     count_left::<Store<'_, u64>>(&rt, (rt.alloc(), &asked), &asked);
+    walk_set::<Store<'_, ()>>(&rt, (rt.alloc(), &asked), &asked);
 }

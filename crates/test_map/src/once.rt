@@ -26,6 +26,14 @@ struct Sums<'a> {
     values: &'a Cell<u64>,
 }
 
+impl Sums<'_> {
+    // Counts from 0 again.
+    fn begin(self) {
+        self.keys.set(0);
+        self.values.set(0);
+    }
+}
+
 fn counted<'a>(number: u64, drops: &'a Cell<u64>) -> CountedKey<'a> {
     let weight = 16u64.wrapping_pow(u32::try_from(number).unwrap_or(0));
     CountedKey {
@@ -103,16 +111,6 @@ fn drop_each<'a, C: ClearNodes<CountedKey<'a>, CountedKey<'a>> + Drop>(
     check(rt, sums, 0x2222_2222_2232_3232, 0x2222_2222_2232_3222);
 }
 
-#[test]
-fn each_is_dropped_once_in_each_way(rt: HostRuntime) {
-    let (keys, values) = (Cell::new(0u64), Cell::new(0u64));
-    let sums = Sums {
-        keys: &keys,
-        values: &values,
-    };
-    drop_each::<SlabStore<PairNode<'_>>>(&rt, BTreeMap::new(rt.alloc()), sums);
-}
-
 // Drops what is not kept at a key that is there: of an entry the key that is asked for, a default, and a key whose value is removed; of an
 // update the key that is given, and a pair that is removed.
 fn drop_at_keys<'a, C: NodesMut<CountedKey<'a>, CountedKey<'a>> + Drop>(
@@ -141,16 +139,6 @@ fn drop_at_keys<'a, C: NodesMut<CountedKey<'a>, CountedKey<'a>> + Drop>(
     check(rt, sums, 0x1111_1121_2121_2111, 0x1111_1111_1111_2111);
 }
 
-#[test]
-fn each_is_dropped_once_at_a_key(rt: HostRuntime) {
-    let (keys, values) = (Cell::new(0u64), Cell::new(0u64));
-    let sums = Sums {
-        keys: &keys,
-        values: &values,
-    };
-    drop_at_keys::<SlabStore<PairNode<'_>>>(&rt, BTreeMap::new(rt.alloc()), sums);
-}
-
 // Extends a map of sixteen pairs by two that it has, and appends two others that it has. It drops the keys that come, and the values that are
 // replaced.
 fn replace_values<'a, C: NodesMut<CountedKey<'a>, CountedKey<'a>> + Drop>(
@@ -170,17 +158,6 @@ fn replace_values<'a, C: NodesMut<CountedKey<'a>, CountedKey<'a>> + Drop>(
     check(rt, sums, 0x1_1000_1100, 0x1_1000_1100);
     drop(map);
     check(rt, sums, 0x1111_1112_2111_2211, 0x1111_1112_2111_2211);
-}
-
-#[test]
-fn each_is_dropped_once_by_many_insertions(rt: HostRuntime) {
-    let (keys, values) = (Cell::new(0u64), Cell::new(0u64));
-    let sums = Sums {
-        keys: &keys,
-        values: &values,
-    };
-    let maps = (BTreeMap::new(rt.alloc()), BTreeMap::new(rt.alloc()));
-    replace_values::<SlabStore<PairNode<'_>>>(&rt, maps, sums);
 }
 
 // Takes a key from each end of an iterator that owns a map. A value is dropped in the step that gives its key.
@@ -217,22 +194,6 @@ fn take_values<'a, C: NodesMut<CountedKey<'a>, CountedKey<'a>> + Drop>(
     check(rt, sums, 0x1000_0000_0000_0001, 0x1000_0000_0000_0001);
     drop(given);
     check(rt, sums, ALL, ALL);
-}
-
-#[test]
-fn each_is_dropped_once_by_an_owner(rt: HostRuntime) {
-    for is_values in [false, true] {
-        let (keys, values) = (Cell::new(0u64), Cell::new(0u64));
-        let sums = Sums {
-            keys: &keys,
-            values: &values,
-        };
-        if is_values {
-            take_values::<SlabStore<PairNode<'_>>>(&rt, BTreeMap::new(rt.alloc()), sums);
-        } else {
-            take_keys::<SlabStore<PairNode<'_>>>(&rt, BTreeMap::new(rt.alloc()), sums);
-        }
-    }
 }
 
 // Takes the first element of a drain of the even numbers, and drops it and the drain.
@@ -292,15 +253,30 @@ fn repeat_elements<'a, C: NodesMut<CountedKey<'a>, ()> + Drop>(
 }
 
 #[test]
-fn each_repeated_element_is_dropped_once(rt: HostRuntime) {
-    let drops = Cell::new(0u64);
-    let sets = (BTreeSet::new(rt.alloc()), BTreeSet::new(rt.alloc()));
-    repeat_elements::<SlabStore<Node<CountedKey<'_>, ()>>>(&rt, sets, &drops);
+fn each_key_and_value_is_dropped_once(rt: HostRuntime) {
+    let (keys, values) = (Cell::new(0u64), Cell::new(0u64));
+    let sums = Sums {
+        keys: &keys,
+        values: &values,
+    };
+    drop_each::<SlabStore<PairNode<'_>>>(&rt, BTreeMap::new(rt.alloc()), sums);
+    sums.begin();
+    drop_at_keys::<SlabStore<PairNode<'_>>>(&rt, BTreeMap::new(rt.alloc()), sums);
+    sums.begin();
+    let maps = (BTreeMap::new(rt.alloc()), BTreeMap::new(rt.alloc()));
+    replace_values::<SlabStore<PairNode<'_>>>(&rt, maps, sums);
+    sums.begin();
+    take_keys::<SlabStore<PairNode<'_>>>(&rt, BTreeMap::new(rt.alloc()), sums);
+    sums.begin();
+    take_values::<SlabStore<PairNode<'_>>>(&rt, BTreeMap::new(rt.alloc()), sums);
 }
 
 #[test]
 fn each_element_is_dropped_once(rt: HostRuntime) {
     let drops = Cell::new(0u64);
+    let sets = (BTreeSet::new(rt.alloc()), BTreeSet::new(rt.alloc()));
+    repeat_elements::<SlabStore<Node<CountedKey<'_>, ()>>>(&rt, sets, &drops);
+    drops.set(0);
     drop_elements::<SlabStore<Node<CountedKey<'_>, ()>>>(&rt, BTreeSet::new(rt.alloc()), &drops);
 }
 

@@ -172,7 +172,8 @@ fn count_levels<C: NodesMut<String, u64> + Drop>(
 }
 
 #[test]
-fn texts_are_found_on_each_level(rt: HostRuntime) {
+fn texts_are_found(rt: HostRuntime) {
+    count_words::<SlabStore<Node<String, u64>>>(&rt, rt.alloc(), rt.alloc());
     count_levels::<SlabStore<Node<String, u64>>>(&rt, rt.alloc(), rt.alloc());
 }
 
@@ -184,11 +185,6 @@ fn lists_are_held_by_slice(rt: HostRuntime) {
 #[test]
 fn words_are_held_by_text(rt: HostRuntime) {
     hold_words::<SlabStore<Node<String, ()>>>(&rt, rt.alloc(), rt.alloc());
-}
-
-#[test]
-fn words_are_counted_by_text(rt: HostRuntime) {
-    count_words::<SlabStore<Node<String, u64>>>(&rt, rt.alloc(), rt.alloc());
 }
 
 // How many pairs are before an address.
