@@ -1,7 +1,7 @@
 //! The lines of a book, from readers and to writers that fail.
 use crate::streams::{Piece, Pieces, Slow};
 use book_text::{Desk, Desks, Ending, Reply, serve};
-use std::alloc::{AllocError, Global};
+use std::alloc::Global;
 use std::cell::Cell;
 use std::io::ErrorKind;
 use std::process::Abort;
@@ -23,9 +23,9 @@ fn has_room(memory: &Refusing<Global>) -> bool {
 
 impl Echo<'_> {
     // Returns whether the words are a call that asks for memory.
-    fn grow(&mut self, words: &str, reply: &mut Reply) -> Result<bool, AllocError> {
+    fn grow(&mut self, words: &str, reply: &mut Reply) -> bool {
         if words != "grow" && words != "spoil" && words != "hide" {
-            return Ok(false);
+            return false;
         }
         let is_grown = has_room(self.memory);
         if !is_grown && words == "spoil" {
@@ -35,37 +35,34 @@ impl Echo<'_> {
             "grown"
         } else {
             "refused"
-        })?;
-        Ok(true)
+        });
+        true
     }
 }
 
 impl Desk for Echo<'_> {
-    fn call(&mut self, words: &str, reply: &mut Reply) -> Result<bool, AllocError> {
-        if self.grow(words, reply)? {
-            return Ok(true);
-        }
-        if words == "fail" {
-            self.is_spent = true;
-            return Err(AllocError);
-        }
-        if words == "list" {
-            reply.word("two")?;
-            reply.line()?;
-            reply.word("lines")?;
-            return Ok(true);
+    fn call(&mut self, words: &str, reply: &mut Reply) -> bool {
+        if self.grow(words, reply) {
+            return true;
         }
         match words.strip_prefix("say ") {
-            Some(rest) => {
-                reply.word(rest)?;
-                Ok(true)
+            Some(rest) => reply.word(rest),
+            None if words == "fail" => {
+                self.is_spent = true;
+                reply.run_out();
             }
-            None => Ok(false),
+            None if words == "list" => {
+                reply.word("two");
+                reply.line();
+                reply.word("lines");
+            }
+            None => return false,
         }
+        true
     }
 
-    fn content(&self, reply: &mut Reply) -> Result<(), AllocError> {
-        reply.truth(self.is_spent)
+    fn content(&self, reply: &mut Reply) {
+        reply.truth(self.is_spent);
     }
 }
 
