@@ -13,7 +13,7 @@ use btree_node::{ClearNodes, CloneNodes, NodesMut};
 use std::alloc::Global;
 
 /// Does the call of a map, or of it and another one, that words name, and adds the reply. Returns whether the words are a call. Maps over stores
-/// of their own kind and of another are made from the origins. It fails if memory for the reply is refused.
+/// of their own kind and of another are made from the origins.
 pub fn serve_map<
     C: ClearNodes<u64, u64> + CloneNodes<u64, u64> + Drop,
     D: NodesMut<u64, u64> + Drop,
