@@ -1,8 +1,8 @@
 -- What callers conclude from the words of a map of ranges: which numbers are between two others, which values they have after
--- an insertion, and how many have one, which values the ranges have that meet some numbers, which numbers are in a gap or below
+-- an insertion, and how many have one after a call, which values the ranges have that meet some numbers, which numbers are in a gap or below
 -- it, where a gap is, how many parts an update has, and that `==` is equality of the ranges.
 -- The ruleset gives `search` the laws on insertions, on ranges that meet, on gaps and on parts.
-use Rattle.std.proofs.Common.{◌≡◌, ◌≤◌, ◌<◌, ◌+◌, ◌-◌, ◌∙◌, ◌||◌, ℕ, max, min, Bool, true, false, is_some, nat_eq, nat_le, nat_lt, List, [], ◌∷◌, cond, Option, Some, None, refl, sym, ap, arith, ◌⊎◌, inl, inr, Decides}
+use Rattle.std.proofs.Common.{◌≡◌, ◌≤◌, ◌<◌, ◌+◌, ◌-◌, ◌∙◌, ◌&&◌, ◌||◌, not, ℕ, max, min, Bool, true, false, is_some, nat_eq, nat_le, nat_lt, List, [], ◌∷◌, cond, Option, Some, None, refl, sym, ap, arith, ◌⊎◌, inl, inr, Decides}
 use Rattle.std.proofs.lemmas.Bool.{and_from, and_parts, cases_Bool, eq-eqb, eqb-true, le-leb, leb-true, lt-ltb, ltb-true}
 use Rattle.std.proofs.lemmas.List.{length-map}
 use Rattle.std.proofs.lemmas.List.Sums.{count_by-le-length, length-filter}
@@ -11,11 +11,11 @@ use Rattle.std.specs.Cmp.Lexicographic.{pointwise_decides}
 use Rattle.btree_map.specs.Comparison.{pair_eq}
 use Rattle.btree_range_map.specs.declared.span.Span.{Span}
 use Rattle.btree_range_set.specs.CallerLaws.{gaps-below, gaps-first, gaps-none, gaps-rest, gaps-some, within-above, within-below}
-use Rattle.btree_range_set.specs.CountLaws.{count-added}
+use Rattle.btree_range_set.specs.CountLaws.{count-added, count-taken}
 use Rattle.btree_range_map.specs.Counts.{count_between}
 use Rattle.btree_range_map.specs.Gaps.{AreGaps}
 use Rattle.btree_range_map.specs.SameRanges.{ranges_eq, span_eq}
-use Rattle.btree_range_map.specs.Ranges.{IsAssigned, Overlaps, OverlapsNone, TellsSame, has_value, is_between, is_within, meets, ranges_meeting, value_at}
+use Rattle.btree_range_map.specs.Ranges.{IsAssigned, IsCleared, Overlaps, OverlapsNone, TellsSame, has_value, is_between, is_within, meets, ranges_meeting, value_at}
 use Rattle.btree_range_map.specs.Updates.{part_between, parts_between}
 
 -- ---- a number between two others
@@ -71,6 +71,24 @@ module _ {V : Type 0} (old new : List (ℕ × Span V)) (s e : ℕ) (value : V) (
       count-added (has_value old) (has_value new) low (high - low) s (e - s) from (omega (arith, from, some, to))
       (λ n inside. free n (ap (λ (k : ℕ). is_between s k n) last ∙ inside))
       (λ n. has-inserted n ∙ ap (λ (k : ℕ). has_value old n || is_between s k n) last)
+    where
+      last : e ≡ s + (e - s)
+      last = omega (arith, some)
+
+-- ---- removals
+module _ {V : Type 0} where
+  cleared : (value : Option V) (b : Bool) → is_some (cond b None value) ≡ (is_some value && not b)
+  cleared None true = refl
+  cleared None false = refl
+  cleared (Some v) true = refl
+  cleared (Some v) false = refl
+
+  -- after a removal so many fewer numbers have a value as had one of those
+  pub count-removed : (old new : List (ℕ × Span V)) (s e : ℕ) → IsCleared old s e new → (low high : ℕ) → low ≤ s → s ≤ e → e ≤ high
+      → count_between new low high + count_between old s e ≡ count_between old low high
+  count-removed old new s e is low high from some to =
+      count-taken (has_value old) (has_value new) low (high - low) s (e - s) from (omega (arith, from, some, to))
+      (λ n. ap (λ v. is_some v) (is n) ∙ cleared (value_at old n) (is_between s e n) ∙ ap (λ (k : ℕ). has_value old n && not (is_between s k n)) last)
     where
       last : e ≡ s + (e - s)
       last = omega (arith, some)

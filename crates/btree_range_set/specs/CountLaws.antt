@@ -1,8 +1,8 @@
 -- What a count of numbers is, from which of them pass the test.
-use Rattle.std.proofs.Common.{◌≡◌, ◌≤◌, ◌<◌, ◌+◌, ◌-◌, ◌∙◌, ◌||◌, not, ℕ, zero, suc, Bool, true, false, cond, refl, ap, arith}
-use Rattle.btree_range_set.specs.CallerLaws.{within-from, within-high, within-low, within-not}
-use Rattle.btree_range_set.specs.Counts.{count_from}
-use Rattle.btree_range_set.specs.Ranges.{is_within}
+use Rattle.std.proofs.Common.{◌≡◌, ◌≤◌, ◌<◌, ◌+◌, ◌-◌, ◌∙◌, ◌||◌, ◌&&◌, not, ℕ, zero, suc, Bool, true, false, cond, List, refl, ap, arith}
+use Rattle.btree_range_set.specs.CallerLaws.{within-above, within-below, within-from}
+use Rattle.btree_range_set.specs.Counts.{count_between, count_from}
+use Rattle.btree_range_set.specs.Ranges.{IsDifference, IsUnion, has_number, is_within}
 
 abbrev one : Bool → ℕ
 one b = cond b 1 0
@@ -65,39 +65,78 @@ count-same test other start (suc count) same =
     let rest = count-same test other (suc start) count (λ n low high. same n (omega arith) (omega arith)) in
     omega (arith, here, rest)
 
+or_false : (a b : Bool) → b ≡ false → (a || b) ≡ a
+or_false true b fails = refl
+or_false false b fails = fails
+
+or_true : (a : Bool) → (a || true) ≡ true
+or_true true = refl
+or_true false = refl
+
+and_true : (a : Bool) → (a && true) ≡ a
+and_true true = refl
+and_true false = refl
+
+and_false : (a : Bool) → (a && false) ≡ false
+and_false true = refl
+and_false false = refl
+
+module _ (start count at size : ℕ) (from : start ≤ at) (to : at + size ≤ start + count) where
+  -- a count is that of the numbers before the `size` ones from `at` on, of these, and of those after them
+  count-around : (test : ℕ → Bool)
+      → count_from test start count ≡ count_from test start (at - start) + (count_from test at size + count_from test (at + size) (count - ((at - start) + size)))
+  count-around test =
+      let first = at - start in
+      let more = count - (first + size) in
+      let parts : count ≡ first + (size + more) = omega (arith, from, to) in
+      let at_run : start + first ≡ at = omega (arith, from) in
+      let one : count_from test start (first + (size + more)) ≡ count_from test start first + count_from test (start + first) (size + more) = count-split test start first (size + more) in
+      let two : count_from test at (size + more) ≡ count_from test at size + count_from test (at + size) more = count-split test at size more in
+      ap (count_from test start) parts ∙ one ∙ rw (at_run, two) refl
+
+  -- if tests agree but on the `size` numbers from `at` on, their counts differ by those of these
+  pub count-changed : (old new : ℕ → Bool) → ((n : ℕ) → is_within (at, at + size) n ≡ false → new n ≡ old n)
+      → count_from new start count + count_from old at size ≡ count_from old start count + count_from new at size
+  count-changed old new same =
+      let before = count-same new old start (at - start) (λ n low high. same n (within-below (at, at + size) n (omega (arith, high, from)))) in
+      let after = count-same new old (at + size) (count - ((at - start) + size)) (λ n low high. same n (within-above (at, at + size) n low)) in
+      let of_new = count-around new in
+      let of_old = count-around old in
+      omega (arith, before, after, of_new, of_old)
+
 -- if the `size` numbers from `at` on did not pass and do now, and the others are as they were, there are so many more
 pub count-added : (old new : ℕ → Bool) (start count at size : ℕ) → start ≤ at → at + size ≤ start + count
     → ((n : ℕ) → is_within (at, at + size) n ≡ true → old n ≡ false) → ((n : ℕ) → new n ≡ (old n || is_within (at, at + size) n))
     → count_from new start count ≡ count_from old start count + size
 count-added old new start count at size from to free is =
-    let first = at - start in
-    let more = count - (first + size) in
-    let parts : count ≡ first + (size + more) = omega arith in
-    let at_run : start + first ≡ at = omega arith in
-    let before : count_from new start first ≡ count_from old start first = count-same new old start first (λ n low high. is n ∙ or_false (old n) (is_within (at, at + size) n) (below n (omega arith))) in
-    let none : count_from old at size ≡ 0 = count-none old at size (λ n low high. free n (within-from (at, at + size) n low high)) in
-    let all : count_from new at size ≡ size = count-all new at size (λ n low high. is n ∙ ap (λ (b : Bool). old n || b) (within-from (at, at + size) n low high) ∙ or_true (old n)) in
-    let after : count_from new (at + size) more ≡ count_from old (at + size) more = count-same new old (at + size) more (λ n low high. is n ∙ or_false (old n) (is_within (at, at + size) n) (above n (omega arith))) in
-    let of_new : count_from new start count ≡ count_from new start first + (count_from new at size + count_from new (at + size) more) = split new first more parts at_run in
-    let of_old : count_from old start count ≡ count_from old start first + (count_from old at size + count_from old (at + size) more) = split old first more parts at_run in
-    omega (arith, before, none, all, after, of_new, of_old)
-  where
-    or_false : (a b : Bool) → b ≡ false → (a || b) ≡ a
-    or_false true b fails = refl
-    or_false false b fails = fails
+    let changed = count-changed start count at size from to old new (λ n out. is n ∙ or_false (old n) (is_within (at, at + size) n) out) in
+    let none = count-none old at size (λ n low high. free n (within-from (at, at + size) n low high)) in
+    let all = count-all new at size (λ n low high. is n ∙ ap (λ (b : Bool). old n || b) (within-from (at, at + size) n low high) ∙ or_true (old n)) in
+    omega (arith, changed, none, all)
 
-    or_true : (a : Bool) → (a || true) ≡ true
-    or_true true = refl
-    or_true false = refl
+-- if these do not pass now, and the others are as they were, there are so many fewer as passed of these
+pub count-taken : (old new : ℕ → Bool) (start count at size : ℕ) → start ≤ at → at + size ≤ start + count
+    → ((n : ℕ) → new n ≡ (old n && not (is_within (at, at + size) n)))
+    → count_from new start count + count_from old at size ≡ count_from old start count
+count-taken old new start count at size from to is =
+    let changed = count-changed start count at size from to old new (λ n out. is n ∙ ap (λ (b : Bool). old n && not b) out ∙ and_true (old n)) in
+    let none = count-none new at size (λ n low high. is n ∙ ap (λ (b : Bool). old n && not b) (within-from (at, at + size) n low high) ∙ and_false (old n)) in
+    omega (arith, changed, none)
 
-    below : (n : ℕ) → n < at → is_within (at, at + size) n ≡ false
-    below n lt = within-not (at, at + size) n (λ is. let low = within-low (at, at + size) n is in omega arith)
+module _ (old new : List (ℕ × ℕ)) (s e : ℕ) (low high : ℕ) (from : low ≤ s) (some : s ≤ e) (to : e ≤ high) where
+  last : e ≡ s + (e - s)
+  last = omega (arith, some)
 
-    above : (n : ℕ) → at + size ≤ n → is_within (at, at + size) n ≡ false
-    above n le = within-not (at, at + size) n (λ is. let high = within-high (at, at + size) n is in omega arith)
+  -- if none of the numbers was in the set, so many more are in it after an insertion
+  pub count-inserted : IsUnion old s e new → ((n : ℕ) → is_within (s, e) n ≡ true → has_number old n ≡ false)
+      → count_between new low high ≡ count_between old low high + (e - s)
+  count-inserted is free =
+      count-added (has_number old) (has_number new) low (high - low) s (e - s) from (omega (arith, from, some, to))
+      (λ n inside. free n (ap (λ (k : ℕ). is_within (s, k) n) last ∙ inside))
+      (λ n. is n ∙ ap (λ (k : ℕ). has_number old n || is_within (s, k) n) last)
 
-    split : (test : ℕ → Bool) (first more : ℕ) → count ≡ first + (size + more) → start + first ≡ at → count_from test start count ≡ count_from test start first + (count_from test at size + count_from test (at + size) more)
-    split test first more parts at_run =
-        let one : count_from test start (first + (size + more)) ≡ count_from test start first + count_from test (start + first) (size + more) = count-split test start first (size + more) in
-        let two : count_from test at (size + more) ≡ count_from test at size + count_from test (at + size) more = count-split test at size more in
-        ap (count_from test start) parts ∙ one ∙ rw (at_run, two) refl
+  -- after a removal so many fewer are in it as were of the numbers
+  pub count-removed : IsDifference old s e new → count_between new low high + count_between old s e ≡ count_between old low high
+  count-removed is =
+      count-taken (has_number old) (has_number new) low (high - low) s (e - s) from (omega (arith, from, some, to))
+      (λ n. is n ∙ ap (λ (k : ℕ). has_number old n && not (is_within (s, k) n)) last)
