@@ -20,12 +20,11 @@ use crate::random::{Numbers, drawn, shuffle};
 use crate::range_maps::{assign_and_remove, sum_values};
 use crate::ranges::sum_ranges;
 use crate::spans::{KitSpans, Spans, add_and_subtract};
-use crate::tables::{FixedNodes, KitMap, SlabMap, SlabNodes, Table};
+use crate::tables::{FixedNodes, Fresh, KitMap, SlabMap, SlabNodes, SpanNodes, Table};
 use btree_map::BTreeMap;
-use btree_node::{Node, NodesMut};
+use btree_node::NodesMut;
 use btree_range_map::{RangeMap, Span};
 use btree_range_set::RangeSet;
-use btree_store::SlabStore;
 use std::alloc::{AllocError, Global};
 use std::env::Env;
 use std::process::ExitCode;
@@ -294,48 +293,62 @@ fn measure_range_map<C: NodesMut<u64, Span<u64>> + Drop>(
     report(rt, is_timed, ("btree_slab", "range_map_get"), since, sum)
 }
 
-// The phases of a map that is filled once, each with a new map, so that all of them touch fresh memory.
-fn measure_maps(
+// The phases of a map that the kit has too.
+fn measure_table<T: Table + Fresh + Drop>(
     rt: &(impl Print + Clock),
     alloc: Global,
     is_timed: bool,
+    map: &str,
     keys: &Keys,
 ) -> io::Result<()> {
-    let count = keys.put.len() as u64;
-    measure(rt, is_timed, "std", KitMap::new(alloc), keys)?;
-    measure(rt, is_timed, "btree_slab", SlabMap::new(alloc), keys)?;
-    // (a table of 512 nodes takes 1,536 keys in any order)
-    if keys.put.len() <= 1_536 {
-        measure_fixed::<FixedNodes>(rt, is_timed, (), keys)?;
-    }
-    measure_ranges::<SlabNodes>(rt, is_timed, alloc, keys)?;
-    measure_descent(rt, is_timed, "std", KitMap::new(alloc), count)?;
-    measure_descent(rt, is_timed, "btree_slab", SlabMap::new(alloc), count)
+    measure(rt, is_timed, map, T::fresh(alloc), keys)?;
+    measure_descent(rt, is_timed, map, T::fresh(alloc), keys.put.len() as u64)?;
+    measure_owned(rt, is_timed, map, (T::fresh(alloc), T::fresh(alloc)), keys)
 }
 
-// The other phases.
+// The phases of this repository's maps and sets alone, over stores of two kinds.
+fn measure_ours<C: NodesMut<u64, u64> + Drop, D: NodesMut<u64, Span<u64>> + Drop>(
+    rt: &(impl Print + Clock),
+    (origin, of_spans): (C::Origin, D::Origin),
+    is_timed: bool,
+    keys: &Keys,
+) -> io::Result<()>
+where
+    C::Origin: Copy,
+    D::Origin: Copy,
+{
+    measure_ranges::<C>(rt, is_timed, origin, keys)?;
+    measure_descent_at::<C>(rt, is_timed, origin, keys.put.len() as u64)?;
+    measure_ascents::<C>(rt, is_timed, origin, keys)?;
+    let set: RangeSet<C> = RangeSet::new(origin);
+    measure_spans(rt, is_timed, "btree_slab", set, keys)?;
+    measure_range_map::<D>(rt, is_timed, of_spans, keys)
+}
+
+// The phases of the kit's map alone, and of a table, of which 512 nodes take 1,536 keys in any order.
 fn measure_others(
     rt: &(impl Print + Clock),
     alloc: Global,
     is_timed: bool,
     keys: &Keys,
 ) -> io::Result<()> {
-    measure_descent_at::<SlabNodes>(rt, is_timed, alloc, keys.put.len() as u64)?;
-    measure_ascents::<SlabNodes>(rt, is_timed, alloc, keys)?;
-    let kit = (KitMap::new(alloc), KitMap::new(alloc));
-    measure_owned(rt, is_timed, "std", kit, keys)?;
-    let ours = (SlabMap::new(alloc), SlabMap::new(alloc));
-    measure_owned(rt, is_timed, "btree_slab", ours, keys)?;
-    measure_spans(
-        rt,
-        is_timed,
-        "std",
-        KitSpans::in_map(KitMap::new(alloc)),
-        keys,
-    )?;
-    let ours: RangeSet<SlabNodes> = RangeSet::new(alloc);
-    measure_spans(rt, is_timed, "btree_slab", ours, keys)?;
-    measure_range_map::<SlabStore<Node<u64, Span<u64>>>>(rt, is_timed, alloc, keys)
+    if keys.put.len() <= 1_536 {
+        measure_fixed::<FixedNodes>(rt, is_timed, (), keys)?;
+    }
+    let kit = KitSpans::in_map(KitMap::new(alloc));
+    measure_spans(rt, is_timed, "std", kit, keys)
+}
+
+fn measure_maps(
+    rt: &(impl Print + Clock),
+    alloc: Global,
+    is_timed: bool,
+    keys: &Keys,
+) -> io::Result<()> {
+    measure_table::<KitMap>(rt, alloc, is_timed, "std", keys)?;
+    measure_table::<SlabMap>(rt, alloc, is_timed, "btree_slab", keys)?;
+    measure_others(rt, alloc, is_timed, keys)?;
+    measure_ours::<SlabNodes, SpanNodes>(rt, (alloc, alloc), is_timed, keys)
 }
 
 fn measure_all(
@@ -344,8 +357,7 @@ fn measure_all(
     is_timed: bool,
 ) -> io::Result<()> {
     let keys = make_keys(count, rt.alloc())?;
-    measure_maps(rt, rt.alloc(), is_timed, &keys)?;
-    measure_others(rt, rt.alloc(), is_timed, &keys)
+    measure_maps(rt, rt.alloc(), is_timed, &keys)
 }
 
 // Returns the number of keys that the arguments give, and whether times are printed; `None` if they are something else.

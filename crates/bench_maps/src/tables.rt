@@ -4,12 +4,16 @@ ghost use Rattle.std.specs.Iterator.{IsFinite};
 use btree_map::BTreeMap;
 use btree_more_stores::FixedSlab;
 use btree_node::{Node, NodesMut};
+use btree_range_map::Span;
 use btree_store::SlabStore;
-use std::alloc::AllocError;
+use std::alloc::{AllocError, Global};
 use std::collections;
 
 /// The nodes of a map, in a slab.
 pub type SlabNodes = SlabStore<Node<u64, u64>>;
+
+/// The nodes of a map of ranges, in a slab.
+pub type SpanNodes = SlabStore<Node<u64, Span<u64>>>;
 
 /// The nodes of a map, in a table of its own.
 pub type FixedNodes = FixedSlab<Node<u64, u64>, 512>;
@@ -42,6 +46,24 @@ pub trait Table {
 
     /// Returns the same sum, from the back.
     fn into_sum_back(self) -> u64;
+}
+
+/// A map that is made anew for each phase, so that all of them touch fresh memory.
+pub trait Fresh {
+    /// Returns an empty map.
+    fn fresh(alloc: Global) -> Self;
+}
+
+impl Fresh for KitMap {
+    fn fresh(alloc: Global) -> KitMap {
+        KitMap::new(alloc)
+    }
+}
+
+impl Fresh for SlabMap {
+    fn fresh(alloc: Global) -> SlabMap {
+        SlabMap::new(alloc)
+    }
 }
 
 fn sum_of<I: Iterator<Item = (u64, u64)> + Drop>(pairs: I) -> u64
