@@ -135,13 +135,27 @@ fn count_left<C: NodesMut<u64, u64> + Drop>(rt: &impl Abort, origin: C::Origin, 
     check(rt, 0u64, asked, (0, 0));
 }
 
+// All of these, over any stores of a map and of a set.
+fn fetches<C: NodesMut<u64, u64> + Drop, D: NodesMut<u64, ()> + Drop>(
+    rt: &impl Abort,
+    (origin, of_set): (C::Origin, D::Origin),
+    asked: &Asked,
+)
+where
+    C::Origin: Copy,
+    D::Origin: Copy,
+{
+    look_up_each::<C>(rt, origin, asked);
+    walk_map::<C>(rt, origin, asked);
+    consume::<C>(rt, origin, false, asked);
+    consume::<C>(rt, origin, true, asked);
+    count_left::<C>(rt, origin, asked);
+    walk_set::<D>(rt, of_set, asked);
+}
+
 #[test]
 fn a_call_fetches_few_nodes(rt: HostRuntime) {
     let asked = Asked::new();
-    look_up_each::<Store<'_, u64>>(&rt, (rt.alloc(), &asked), &asked);
-    walk_map::<Store<'_, u64>>(&rt, (rt.alloc(), &asked), &asked);
-    consume::<Store<'_, u64>>(&rt, (rt.alloc(), &asked), false, &asked);
-    consume::<Store<'_, u64>>(&rt, (rt.alloc(), &asked), true, &asked);
-    count_left::<Store<'_, u64>>(&rt, (rt.alloc(), &asked), &asked);
-    walk_set::<Store<'_, ()>>(&rt, (rt.alloc(), &asked), &asked);
+    let origin = (rt.alloc(), &asked);
+    fetches::<Store<'_, u64>, Store<'_, ()>>(&rt, (origin, origin), &asked);
 }

@@ -1,4 +1,6 @@
 //! How often merges of sets compare elements.
+ghost use Rattle.std.specs.Iterator.{IsFinite};
+
 use crate::asserts::{assert_same, assert_true};
 use btree_node::{Node, NodesMut};
 use btree_set::BTreeSet;
@@ -28,72 +30,41 @@ fn counted<'a, C: NodesMut<Counted<'a>, ()>>(
     set
 }
 
-// Goes through a union, and checks how many elements it yields and how many steps compare two elements.
-fn check_union<'a, C: NodesMut<Counted<'a>, ()>>(
-    rt: &impl Abort,
-    left: &BTreeSet<Counted<'a>, C>,
-    right: &BTreeSet<Counted<'a>, C>,
-    compared: &Cell<u32>,
-) {
+// Goes through a merge. Returns how many elements it yields, and how many steps compare two elements.
+fn steps_of<I: Iterator + Drop>(merge: I, compared: &Cell<u32>) -> (u32, u32)
+where
+    I::Item: Drop,
+    requires can { I.can_next merge }
+    requires ends { IsFinite (I.remaining merge) }
+{
     let mut yielded = 0u32;
     compared.set(0);
-    for _ in left.union(right) {
+    for _ in merge {
         yielded = yielded.wrapping_add(1);
     }
-    assert_same(rt, (yielded, compared.get()), (13, 13));
+    (yielded, compared.get())
 }
 
-// Does the same with an intersection.
-fn check_intersection<'a, C: NodesMut<Counted<'a>, ()>>(
+// Goes through each merge of two sets.
+fn check_steps<K: Ord, C: NodesMut<K, ()>>(
     rt: &impl Abort,
-    left: &BTreeSet<Counted<'a>, C>,
-    right: &BTreeSet<Counted<'a>, C>,
+    left: &BTreeSet<K, C>,
+    right: &BTreeSet<K, C>,
     compared: &Cell<u32>,
 ) {
-    let mut yielded = 0u32;
-    compared.set(0);
-    for _ in left.intersection(right) {
-        yielded = yielded.wrapping_add(1);
-    }
-    assert_same(rt, (yielded, compared.get()), (4, 13));
-}
-
-// Does the same with a difference.
-fn check_difference<'a, C: NodesMut<Counted<'a>, ()>>(
-    rt: &impl Abort,
-    left: &BTreeSet<Counted<'a>, C>,
-    right: &BTreeSet<Counted<'a>, C>,
-    compared: &Cell<u32>,
-) {
-    let mut yielded = 0u32;
-    compared.set(0);
-    for _ in left.difference(right) {
-        yielded = yielded.wrapping_add(1);
-    }
-    assert_same(rt, (yielded, compared.get()), (6, 13));
-}
-
-// Does the same with a symmetric difference.
-fn check_symmetric_difference<'a, C: NodesMut<Counted<'a>, ()>>(
-    rt: &impl Abort,
-    left: &BTreeSet<Counted<'a>, C>,
-    right: &BTreeSet<Counted<'a>, C>,
-    compared: &Cell<u32>,
-) {
-    let mut yielded = 0u32;
-    compared.set(0);
-    for _ in left.symmetric_difference(right) {
-        yielded = yielded.wrapping_add(1);
-    }
-    assert_same(rt, (yielded, compared.get()), (9, 13));
+    assert_same(rt, steps_of(left.union(right), compared), (13, 13));
+    assert_same(rt, steps_of(left.intersection(right), compared), (4, 13));
+    assert_same(rt, steps_of(left.difference(right), compared), (6, 13));
+    let either = left.symmetric_difference(right);
+    assert_same(rt, steps_of(either, compared), (9, 13));
 }
 
 // A merge compares nothing before its first step. The tests end at the first element that decides: 0 is in both, 2 only in the first set, and 3
 // only in the second, where it is compared with 2 and 4.
-fn check_ends<'a, C: NodesMut<Counted<'a>, ()>>(
+fn check_ends<K: Ord, C: NodesMut<K, ()>>(
     rt: &impl Abort,
-    left: &BTreeSet<Counted<'a>, C>,
-    right: &BTreeSet<Counted<'a>, C>,
+    left: &BTreeSet<K, C>,
+    right: &BTreeSet<K, C>,
     compared: &Cell<u32>,
 ) {
     compared.set(0);
@@ -119,10 +90,7 @@ fn merge_counted<'a, C: NodesMut<Counted<'a>, ()> + Drop>(
 ) {
     let left = counted(rt, left, compared, &[0, 2, 4, 6, 8, 10, 12, 14, 16, 18]);
     let right = counted(rt, right, compared, &[0, 3, 6, 9, 12, 15, 18]);
-    check_union(rt, &left, &right, compared);
-    check_intersection(rt, &left, &right, compared);
-    check_difference(rt, &left, &right, compared);
-    check_symmetric_difference(rt, &left, &right, compared);
+    check_steps(rt, &left, &right, compared);
     check_ends(rt, &left, &right, compared);
 }
 
