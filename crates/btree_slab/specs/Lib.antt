@@ -129,6 +129,7 @@ pub use Rattle.btree_ext.specs.CallerLaws as EditLaws
 pub use Rattle.btree_map.specs.CallerLaws as MapLaws
 pub use Rattle.btree_map.proofs.LookUpLaws
 pub mod FoundLaws
+pub mod BetweenLaws
 pub use Rattle.btree_set.proofs.SetLaws
 pub use Rattle.btree_range_set.specs.CallerLaws as RangeLaws
 pub use Rattle.btree_range_set.specs.CountLaws
