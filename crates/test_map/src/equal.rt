@@ -58,58 +58,85 @@ impl Ord for Named {
     }
 }
 
+// A key or an element with a number and a name.
+trait IsNamed {
+    fn named(number: u64, name: char) -> Self;
+
+    fn parts(&self) -> (u64, char);
+}
+
+impl IsNamed for Named {
+    fn named(number: u64, name: char) -> Named {
+        Named { number, name }
+    }
+
+    fn parts(&self) -> (u64, char) {
+        (self.number, self.name)
+    }
+}
+
 type MapStore = SlabStore<Node<Named, u64>>;
 
 type SetStore = SlabStore<Node<Named, ()>>;
 
 // Returns the name of the stored key with a number, and its value.
-fn stored<C: NodesMut<Named, u64>>(
-    map: &BTreeMap<Named, u64, C>,
+fn stored<K: Ord + Drop + IsNamed, C: NodesMut<K, u64>>(
+    map: &BTreeMap<K, u64, C>,
     number: u64,
 ) -> Option<(char, u64)> {
-    let (key, value) = map.get_key_value(&Named { number, name: '?' })?;
-    Some((key.name, *value))
+    let (key, value) = map.get_key_value(&K::named(number, '?'))?;
+    Some((key.parts().1, *value))
 }
 
 // Inserts a pair. Returns the value that was there.
-fn put<C: NodesMut<Named, u64>>(
+fn put<K: Ord + Drop + IsNamed, C: NodesMut<K, u64>>(
     rt: &impl Abort,
-    map: &mut BTreeMap<Named, u64, C>,
+    map: &mut BTreeMap<K, u64, C>,
     number: u64,
     name: char,
     value: u64,
 ) -> Option<u64> {
-    match map.insert(Named { number, name }, value) {
+    match map.insert(K::named(number, name), value) {
         Ok(old) => old,
         Err(_) => panic!(rt; "refused"),
     }
 }
 
 // Extends a map by the pairs of another one. Returns whether none was refused.
-fn copy_pairs<C: NodesMut<Named, u64>>(
-    map: &mut BTreeMap<Named, u64, C>,
-    other: &BTreeMap<Named, u64, C>,
+fn copy_pairs<K: Ord + Copy, C: NodesMut<K, u64>>(
+    map: &mut BTreeMap<K, u64, C>,
+    other: &BTreeMap<K, u64, C>,
 ) -> bool {
     let mut source = other.iter();
     map.extend_copied(&mut source).is_ok()
 }
 
-// Inserts and replaces a key that is equal to one of the map, and appends a map that has one.
-fn put_equal<C: NodesMut<Named, u64> + Drop>(
+// Extends a map by copies of the pairs of another one, of which one has an equal key.
+fn copy_equal_pairs<K: Ord + Copy + IsNamed, C: NodesMut<K, u64> + Drop>(
     rt: &impl Abort,
-    mut map: BTreeMap<Named, u64, C>,
-    mut other: BTreeMap<Named, u64, C>,
+    mut map: BTreeMap<K, u64, C>,
+    mut other: BTreeMap<K, u64, C>,
+) {
+    assert_true(rt, map.insert(K::named(1, 'a'), 9).is_ok());
+    assert_true(rt, other.insert(K::named(1, 'e'), 10).is_ok());
+    assert_true(rt, copy_pairs(&mut map, &other));
+    assert_same(rt, stored(&map, 1), Some(('a', 10)));
+    assert_same(rt, stored(&other, 1), Some(('e', 10)));
+}
+
+// Inserts and replaces a key that is equal to one of the map, and appends a map that has one.
+fn put_equal<K: Ord + Drop + IsNamed, C: NodesMut<K, u64> + Drop>(
+    rt: &impl Abort,
+    mut map: BTreeMap<K, u64, C>,
+    mut other: BTreeMap<K, u64, C>,
 ) {
     assert_same(rt, put(rt, &mut map, 1, 'a', 1), None);
     assert_same(rt, put(rt, &mut map, 2, 'a', 2), None);
     assert_same(rt, put(rt, &mut map, 2, 'b', 20), Some(2));
     assert_same(rt, stored(&map, 2), Some(('a', 20)));
-    let key = Named {
-        number: 2,
-        name: 'c',
-    };
+    let key = K::named(2, 'c');
     match map.replace(key, 30) {
-        Ok(Some((key, value))) => assert_same(rt, (key.number, key.name, value), (2, 'a', 20)),
+        Ok(Some((key, value))) => assert_same(rt, (key.parts(), value), ((2, 'a'), 20)),
         Ok(None) | Err(_) => panic!(rt; "not replaced"),
     }
     assert_same(rt, stored(&map, 2), Some(('c', 30)));
@@ -117,48 +144,43 @@ fn put_equal<C: NodesMut<Named, u64> + Drop>(
     assert_true(rt, map.append(&mut other).is_ok());
     assert_same(rt, stored(&map, 1), Some(('a', 9)));
     assert_same(rt, (map.len(), other.len()), (2, 0));
-    assert_same(rt, put(rt, &mut other, 1, 'e', 10), None);
-    assert_true(rt, copy_pairs(&mut map, &other));
-    assert_same(rt, stored(&map, 1), Some(('a', 10)));
-    assert_same(rt, stored(&other, 1), Some(('e', 10)));
 }
 
 // Writes to the value of a key by its entry, and updates it.
-fn change_equal<C: NodesMut<Named, u64>>(rt: &impl Abort, map: &mut BTreeMap<Named, u64, C>) {
-    let second = Named {
-        number: 1,
-        name: 'b',
-    };
-    match map.entry(second).or_insert(7) {
+fn change_equal<K: Ord + Drop + IsNamed, C: NodesMut<K, u64>>(
+    rt: &impl Abort,
+    map: &mut BTreeMap<K, u64, C>,
+) {
+    match map.entry(K::named(1, 'b')).or_insert(7) {
         Ok(value) => *value = value.wrapping_add(1),
         Err(_) => panic!(rt; "refused"),
     }
     assert_same(rt, stored(map, 1), Some(('a', 2)));
     assert_same(
         rt,
-        map.update(second, |old| (Some(3), old)).ok(),
+        map.update(K::named(1, 'b'), |old| (Some(3), old)).ok(),
         Some(Some(2)),
     );
     assert_same(rt, stored(map, 1), Some(('a', 3)));
 }
 
 // Does so with a key that is equal to the one of a map, adds pairs with equal keys, and removes the stored one.
-fn reach_equal<C: NodesMut<Named, u64> + Drop>(rt: &impl Abort, mut map: BTreeMap<Named, u64, C>) {
+fn reach_equal<K: Ord + Drop + IsNamed, C: NodesMut<K, u64> + Drop>(
+    rt: &impl Abort,
+    mut map: BTreeMap<K, u64, C>,
+) {
     assert_same(rt, put(rt, &mut map, 1, 'a', 1), None);
     change_equal(rt, &mut map);
     let names = [(1, 'c', 4), (2, 'b', 5), (2, 'c', 6)];
     let mut source = names
         .iter()
-        .map(|&(number, name, value)| (Named { number, name }, value));
+        .map(|&(number, name, value)| (K::named(number, name), value));
     assert_true(rt, map.extend(&mut source).is_ok());
     assert_same(rt, stored(&map, 1), Some(('a', 4)));
     assert_same(rt, stored(&map, 2), Some(('b', 6)));
-    let asked = Named {
-        number: 1,
-        name: 'd',
-    };
+    let asked = K::named(1, 'd');
     match map.remove_entry(&asked) {
-        Some((key, value)) => assert_same(rt, (key.name, value), ('a', 4)),
+        Some((key, value)) => assert_same(rt, (key.parts(), value), ((1, 'a'), 4)),
         None => panic!(rt; "not removed"),
     }
     assert_same(rt, map.len(), 1);
@@ -167,9 +189,7 @@ fn reach_equal<C: NodesMut<Named, u64> + Drop>(rt: &impl Abort, mut map: BTreeMa
 // Makes a map of three pairs, of which two have equal keys.
 fn collect_equal<C: NodesMut<Named, u64> + Drop>(rt: &impl Abort, origin: C::Origin) {
     let names = [(1, 'a', 1), (2, 'a', 2), (1, 'b', 3)];
-    let mut source = names
-        .iter()
-        .map(|&(number, name, value)| (Named { number, name }, value));
+    let mut source = names.iter().map(|&(number, name, value)| (Named::named(number, name), value));
     match BTreeMap::<Named, u64, C>::from_iter(origin, &mut source) {
         Ok(map) => {
             assert_same(rt, map.len(), 2);
@@ -180,31 +200,30 @@ fn collect_equal<C: NodesMut<Named, u64> + Drop>(rt: &impl Abort, origin: C::Ori
 }
 
 // Inserts the numbers, each with the name, into a set that is empty, and returns it.
-fn names<C: NodesMut<Named, ()>>(
+fn names<K: Ord + Drop + IsNamed, C: NodesMut<K, ()>>(
     rt: &impl Abort,
-    set: BTreeSet<Named, C>,
+    set: BTreeSet<K, C>,
     numbers: &[u64],
     name: char,
-) -> BTreeSet<Named, C> {
+) -> BTreeSet<K, C> {
     let mut set = set;
     for number in numbers {
         let number = *number;
-        assert_true(rt, set.insert(Named { number, name }).is_ok());
+        assert_true(rt, set.insert(K::named(number, name)).is_ok());
     }
     set
 }
 
 // Returns the number and the name of an element.
-fn parts(element: Option<&Named>) -> Option<(u64, char)> {
-    let element = element?;
-    Some((element.number, element.name))
+fn parts<K: IsNamed>(element: Option<&K>) -> Option<(u64, char)> {
+    Some(element?.parts())
 }
 
 // Checks the union of {1, 2} with the name a and {2, 3} with the name b.
-fn check_union<C: NodesMut<Named, ()>>(
+fn check_union<K: Ord + Drop + IsNamed, C: NodesMut<K, ()>>(
     rt: &impl Abort,
-    left: &BTreeSet<Named, C>,
-    right: &BTreeSet<Named, C>,
+    left: &BTreeSet<K, C>,
+    right: &BTreeSet<K, C>,
 ) {
     let mut either = left.union(right);
     assert_same(rt, either.size_hint(), (2, Some(4)));
@@ -215,10 +234,10 @@ fn check_union<C: NodesMut<Named, ()>>(
 }
 
 // Checks the intersection and the difference of the same sets.
-fn check_first<C: NodesMut<Named, ()>>(
+fn check_first<K: Ord + Drop + IsNamed, C: NodesMut<K, ()>>(
     rt: &impl Abort,
-    left: &BTreeSet<Named, C>,
-    right: &BTreeSet<Named, C>,
+    left: &BTreeSet<K, C>,
+    right: &BTreeSet<K, C>,
 ) {
     let mut both = left.intersection(right);
     assert_same(rt, parts(both.next()), Some((2, 'a')));
@@ -229,10 +248,10 @@ fn check_first<C: NodesMut<Named, ()>>(
 }
 
 // Checks the symmetric difference of the same sets.
-fn check_symmetric<C: NodesMut<Named, ()>>(
+fn check_symmetric<K: Ord + Drop + IsNamed, C: NodesMut<K, ()>>(
     rt: &impl Abort,
-    left: &BTreeSet<Named, C>,
-    right: &BTreeSet<Named, C>,
+    left: &BTreeSet<K, C>,
+    right: &BTreeSet<K, C>,
 ) {
     let mut one = left.symmetric_difference(right);
     assert_same(rt, parts(one.next()), Some((1, 'a')));
@@ -241,10 +260,10 @@ fn check_symmetric<C: NodesMut<Named, ()>>(
 }
 
 // Merges two sets: the first has 1 and 2 with the name a, the second one 2 and 3 with the name b.
-fn merge<C: NodesMut<Named, ()> + Drop>(
+fn merge<K: Ord + Drop + IsNamed, C: NodesMut<K, ()> + Drop>(
     rt: &impl Abort,
-    left: BTreeSet<Named, C>,
-    right: BTreeSet<Named, C>,
+    left: BTreeSet<K, C>,
+    right: BTreeSet<K, C>,
 ) {
     let left = names(rt, left, &[1, 2], 'a');
     let right = names(rt, right, &[2, 3], 'b');
@@ -254,14 +273,14 @@ fn merge<C: NodesMut<Named, ()> + Drop>(
 }
 
 // Inserts and replaces an element that is equal to one of a set.
-fn insert_equal<C: NodesMut<Named, ()>>(rt: &impl Abort, set: &mut BTreeSet<Named, C>) {
-    let second = Named {
-        number: 2,
-        name: 'b',
-    };
-    assert_same(rt, set.insert(second).ok(), Some(false));
+fn insert_equal<K: Ord + Drop + IsNamed, C: NodesMut<K, ()>>(
+    rt: &impl Abort,
+    set: &mut BTreeSet<K, C>,
+) {
+    let second = K::named(2, 'b');
+    assert_same(rt, set.insert(K::named(2, 'b')).ok(), Some(false));
     assert_same(rt, parts(set.get(&second)), Some((2, 'a')));
-    match set.replace(second) {
+    match set.replace(K::named(2, 'b')) {
         Ok(old) => assert_same(rt, parts(old.as_ref()), Some((2, 'a'))),
         Err(_) => panic!(rt; "refused"),
     }
@@ -269,19 +288,31 @@ fn insert_equal<C: NodesMut<Named, ()>>(rt: &impl Abort, set: &mut BTreeSet<Name
 }
 
 // Extends a set by the elements of another one. Returns whether none was refused.
-fn copy_elements<C: NodesMut<Named, ()>>(
-    set: &mut BTreeSet<Named, C>,
-    other: &BTreeSet<Named, C>,
+fn copy_elements<K: Ord + Copy, C: NodesMut<K, ()>>(
+    set: &mut BTreeSet<K, C>,
+    other: &BTreeSet<K, C>,
 ) -> bool {
     let mut source = other.iter();
     set.extend_copied(&mut source).is_ok()
 }
 
-// Does so, and appends a set of which an element is equal to one that is there.
-fn append_equal<C: NodesMut<Named, ()> + Drop>(
+// Extends a set by copies of the elements of another one, of which one is equal to one that is there.
+fn copy_equal_elements<K: Ord + Copy + IsNamed, C: NodesMut<K, ()> + Drop>(
     rt: &impl Abort,
-    set: BTreeSet<Named, C>,
-    other: BTreeSet<Named, C>,
+    mut set: BTreeSet<K, C>,
+    mut other: BTreeSet<K, C>,
+) {
+    assert_true(rt, set.insert(K::named(3, 'c')).is_ok());
+    assert_true(rt, other.insert(K::named(3, 'd')).is_ok());
+    assert_true(rt, copy_elements(&mut set, &other));
+    assert_same(rt, parts(set.last()), Some((3, 'c')));
+}
+
+// Inserts an equal element, and appends a set of which an element is equal to one that is there.
+fn append_equal<K: Ord + Drop + IsNamed, C: NodesMut<K, ()> + Drop>(
+    rt: &impl Abort,
+    set: BTreeSet<K, C>,
+    other: BTreeSet<K, C>,
 ) {
     let mut set = names(rt, set, &[1, 2], 'a');
     insert_equal(rt, &mut set);
@@ -289,23 +320,20 @@ fn append_equal<C: NodesMut<Named, ()> + Drop>(
     assert_true(rt, set.append(&mut other).is_ok());
     assert_same(rt, parts(set.first()), Some((1, 'a')));
     assert_same(rt, parts(set.last()), Some((3, 'c')));
-    let other = names(rt, other, &[3], 'd');
-    assert_true(rt, copy_elements(&mut set, &other));
-    assert_same(rt, parts(set.last()), Some((3, 'c')));
 }
 
 // Adds elements of which some are equal to those of a set, and takes and removes others by equal ones.
-fn take_equal<C: NodesMut<Named, ()> + Drop>(rt: &impl Abort, set: BTreeSet<Named, C>) {
+fn take_equal<K: Ord + Drop + IsNamed, C: NodesMut<K, ()> + Drop>(
+    rt: &impl Abort,
+    set: BTreeSet<K, C>,
+) {
     let mut set = names(rt, set, &[1, 2, 3], 'a');
     let more = [(1, 'b'), (4, 'b'), (4, 'c')];
-    let mut source = more.iter().map(|&(number, name)| Named { number, name });
+    let mut source = more.iter().map(|&(number, name)| K::named(number, name));
     assert_true(rt, set.extend(&mut source).is_ok());
     assert_same(rt, parts(set.first()), Some((1, 'a')));
     assert_same(rt, parts(set.last()), Some((4, 'b')));
-    let asked = Named {
-        number: 2,
-        name: 'd',
-    };
+    let asked = K::named(2, 'd');
     assert_true(rt, set.contains(&asked));
     assert_same(rt, parts(set.take(&asked).as_ref()), Some((2, 'a')));
     assert_true(rt, !set.remove(&asked));
@@ -314,14 +342,20 @@ fn take_equal<C: NodesMut<Named, ()> + Drop>(rt: &impl Abort, set: BTreeSet<Name
 
 #[test]
 fn an_equal_key_stays_unless_it_is_replaced(rt: HostRuntime) {
-    put_equal::<MapStore>(&rt, BTreeMap::new(rt.alloc()), BTreeMap::new(rt.alloc()));
-    reach_equal::<MapStore>(&rt, BTreeMap::new(rt.alloc()));
+    put_equal::<Named, MapStore>(&rt, BTreeMap::new(rt.alloc()), BTreeMap::new(rt.alloc()));
+    copy_equal_pairs::<Named, MapStore>(&rt, BTreeMap::new(rt.alloc()), BTreeMap::new(rt.alloc()));
+    reach_equal::<Named, MapStore>(&rt, BTreeMap::new(rt.alloc()));
     collect_equal::<MapStore>(&rt, rt.alloc());
 }
 
 #[test]
 fn an_equal_element_stays_unless_it_is_replaced(rt: HostRuntime) {
-    merge::<SetStore>(&rt, BTreeSet::new(rt.alloc()), BTreeSet::new(rt.alloc()));
-    append_equal::<SetStore>(&rt, BTreeSet::new(rt.alloc()), BTreeSet::new(rt.alloc()));
-    take_equal::<SetStore>(&rt, BTreeSet::new(rt.alloc()));
+    merge::<Named, SetStore>(&rt, BTreeSet::new(rt.alloc()), BTreeSet::new(rt.alloc()));
+    append_equal::<Named, SetStore>(&rt, BTreeSet::new(rt.alloc()), BTreeSet::new(rt.alloc()));
+    copy_equal_elements::<Named, SetStore>(
+        &rt,
+        BTreeSet::new(rt.alloc()),
+        BTreeSet::new(rt.alloc()),
+    );
+    take_equal::<Named, SetStore>(&rt, BTreeSet::new(rt.alloc()));
 }
