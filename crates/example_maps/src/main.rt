@@ -48,8 +48,11 @@ use crate::texts::{count_of, count_text};
 use crate::visits::count_visit;
 use crate::words::count_word;
 use btree_slab::generic::map::Refused;
+use btree_slab::range_map::Span;
+use btree_slab::store::NodesMut;
 use btree_slab::{
-    Address, BTreeExt, BTreeExtMut, BTreeMap, BTreeSet, FixedMap, RangeMap, RangeSet,
+    Address, BTreeExt, BTreeExtMut, BTreeMap, BTreeSet, FixedMap, RangeMap, RangeSet, generic,
+    range_map, range_set,
 };
 use std::alloc::Global;
 use std::io;
@@ -93,8 +96,10 @@ fn take_and_put_back(
 }
 
 /// Prints where blocks are reserved, of 32, and which are free then.
-fn print_blocks(rt: &impl Print, alloc: Global) -> io::Result<()> {
-    let mut reserved: RangeSet = RangeSet::new(alloc);
+fn print_blocks<C: NodesMut<u64, u64> + Drop>(
+    rt: &impl Print,
+    mut reserved: range_set::RangeSet<C>,
+) -> io::Result<()> {
     reserved.insert(0, 14)?;
     reserved.remove(2, 8)?;
     for size in [7, 5, 12] {
@@ -109,10 +114,11 @@ fn print_blocks(rt: &impl Print, alloc: Global) -> io::Result<()> {
     Ok(())
 }
 
-/// Prints who owns which addresses, of a hundred. Some are reserved, some of these are given away and back, some are released, and some handed
-/// over.
-fn print_memory(rt: &impl Print, alloc: Global) -> io::Result<()> {
-    let mut memory: RangeMap<Owner> = RangeMap::new(alloc);
+/// Prints who owns which addresses, of a hundred. Some are reserved, and some of these given away and back.
+fn print_memory<C: NodesMut<u64, Span<Owner>> + Drop>(
+    rt: &impl Print,
+    mut memory: range_map::RangeMap<Owner, C>,
+) -> io::Result<()> {
     give(&mut memory, 0, 16, Owner::System)?;
     let start = reserve_memory(&mut memory, 40, 100, Owner::Process(1))?;
     rt.println(format_args!("40 addresses: from {}", start.unwrap_or(100)))?;
@@ -122,9 +128,17 @@ fn print_memory(rt: &impl Print, alloc: Global) -> io::Result<()> {
             rt.println(format_args!("{is}: {start} to {}", span.end))?;
         }
     }
-    release(&mut memory, 20, 24)?;
-    rt.println(format_args!("22 is free: {}", owner_of(&memory, 22).is_none()))?;
-    hand_over(&mut memory, 10, 40, Owner::Process(1), Owner::Process(2))?;
+    print_released(rt, &mut memory)
+}
+
+/// Prints who owns them once some are released, and some handed over.
+fn print_released<C: NodesMut<u64, Span<Owner>>>(
+    rt: &impl Print,
+    memory: &mut range_map::RangeMap<Owner, C>,
+) -> io::Result<()> {
+    release(memory, 20, 24)?;
+    rt.println(format_args!("22 is free: {}", owner_of(memory, 22).is_none()))?;
+    hand_over(memory, 10, 40, Owner::Process(1), Owner::Process(2))?;
     for (start, span) in memory.iter() {
         rt.println(format_args!("{start} to {}: {:?}", span.end, span.value))?;
     }
@@ -132,8 +146,10 @@ fn print_memory(rt: &impl Print, alloc: Global) -> io::Result<()> {
 }
 
 /// Prints how many regions a process takes over, of three that touch its addresses, and who owns one of them then.
-fn print_taken(rt: &impl Print, alloc: Global) -> io::Result<()> {
-    let mut memory: RangeMap<Owner> = RangeMap::new(alloc);
+fn print_taken<C: NodesMut<u64, Span<Owner>> + Drop>(
+    rt: &impl Print,
+    mut memory: range_map::RangeMap<Owner, C>,
+) -> io::Result<()> {
     give(&mut memory, 0, 4, Owner::System)?;
     give(&mut memory, 8, 12, Owner::Process(1))?;
     give(&mut memory, 12, 14, Owner::Process(2))?;
@@ -155,8 +171,11 @@ fn print_counts(rt: &impl Print, alloc: Global) -> io::Result<()> {
 }
 
 /// Prints how often two of a few words occur, in a map of strings.
-fn print_texts(rt: &impl Print, alloc: Global) -> io::Result<()> {
-    let mut counts: BTreeMap<String, u64> = BTreeMap::new(alloc);
+fn print_texts<C: NodesMut<String, u64> + Drop>(
+    rt: &impl Print,
+    alloc: Global,
+    mut counts: generic::BTreeMap<String, u64, C>,
+) -> io::Result<()> {
     for word in ["to", "be", "or", "not", "to", "be"] {
         count_text(&mut counts, alloc, word)?;
     }
@@ -167,8 +186,10 @@ fn print_texts(rt: &impl Print, alloc: Global) -> io::Result<()> {
 }
 
 /// Prints what was logged in two minutes.
-fn print_log(rt: &impl Print, alloc: Global) -> io::Result<()> {
-    let mut log: BTreeMap<u64, u32> = BTreeMap::new(alloc);
+fn print_log<C: NodesMut<u64, u32> + Drop>(
+    rt: &impl Print,
+    mut log: generic::BTreeMap<u64, u32, C>,
+) -> io::Result<()> {
     for (second, door) in [(59, 3), (180, 2), (60, 1), (119, 3), (179, 1)] {
         log.insert(second, door)?;
     }
@@ -179,8 +200,11 @@ fn print_log(rt: &impl Print, alloc: Global) -> io::Result<()> {
 }
 
 /// Prints the shelves of a part, of which one is cleared.
-fn print_shelves(rt: &impl Print, alloc: Global) -> io::Result<()> {
-    let mut shelves: BTreeSet<(u32, u32)> = BTreeSet::new(alloc);
+fn print_shelves<C: NodesMut<(u32, u32), ()> + Drop>(
+    rt: &impl Print,
+    alloc: Global,
+    mut shelves: generic::BTreeSet<(u32, u32), C>,
+) -> io::Result<()> {
     for pair in [(408, 4), (17, 1), (408, 1), (408, 3)] {
         shelves.insert(pair)?;
     }
@@ -217,10 +241,13 @@ fn print_copies(rt: &impl Print, stock: BTreeMap<u32, u64>) -> io::Result<()> {
 }
 
 /// Prints the parts of an order that are not in stock.
-fn print_missing(rt: &impl Print, alloc: Global, stock: &BTreeMap<u32, u64>) -> io::Result<()> {
-    let mut order: BTreeSet<u32> = BTreeSet::new(alloc);
+fn print_missing<C: NodesMut<u32, u64>, D: NodesMut<u32, ()> + Drop>(
+    rt: &impl Print,
+    stock: &generic::BTreeMap<u32, u64, C>,
+    mut order: generic::BTreeSet<u32, D>,
+    mut parts: generic::BTreeSet<u32, D>,
+) -> io::Result<()> {
     order.extend(&mut [408, 1203, 2000].into_iter())?;
-    let mut parts: BTreeSet<u32> = BTreeSet::new(alloc);
     parts.extend_copied(&mut stock.keys())?;
     for part in order.difference(&parts) {
         rt.println(format_args!("missing: {part}"))?;
@@ -295,8 +322,10 @@ fn print_cache(rt: &impl Print) -> io::Result<()> {
 }
 
 /// Prints what is taken of three orders, of which one is cancelled.
-fn print_orders(rt: &impl Print, alloc: Global) -> io::Result<()> {
-    let mut orders: BTreeMap<(u64, u64), u64> = BTreeMap::new(alloc);
+fn print_orders<C: NodesMut<(u64, u64), u64> + Drop>(
+    rt: &impl Print,
+    mut orders: generic::BTreeMap<(u64, u64), u64, C>,
+) -> io::Result<()> {
     for (price, number, amount) in [(100, 1, 5), (99, 2, 3), (100, 3, 4)] {
         orders.insert((price, number), amount)?;
     }
@@ -313,8 +342,10 @@ fn print_orders(rt: &impl Print, alloc: Global) -> io::Result<()> {
 }
 
 /// Prints what is read of two files, of which one has a line without a count.
-fn print_files(rt: &(impl Print + Files + AllocGlobal)) -> io::Result<()> {
-    let mut stock: BTreeMap<u32, u64> = BTreeMap::new(rt.alloc());
+fn print_files<C: NodesMut<u32, u64> + Drop>(
+    rt: &(impl Print + Files + AllocGlobal),
+    mut stock: generic::BTreeMap<u32, u64, C>,
+) -> io::Result<()> {
     for path in ["parts.txt", "torn.txt"] {
         match read_stock(rt, &mut stock, path) {
             Ok(()) => rt.println(format_args!("{path}: {} parts", stock.len()))?,
@@ -324,23 +355,38 @@ fn print_files(rt: &(impl Print + Files + AllocGlobal)) -> io::Result<()> {
     Ok(())
 }
 
+/// What is done with one stock.
+fn print_parts(rt: &impl Print, alloc: Global) -> io::Result<()> {
+    let mut stock: BTreeMap<u32, u64> = BTreeMap::new(alloc);
+    print_stock(rt, &mut stock)?;
+    print_page(rt, alloc, &mut stock)?;
+    print_missing(rt, &stock, BTreeSet::new(alloc), BTreeSet::new(alloc))?;
+    print_copies(rt, stock)
+}
+
+/// Ranges of numbers.
+fn print_ranges(rt: &impl Print, alloc: Global) -> io::Result<()> {
+    print_blocks(rt, RangeSet::new(alloc))?;
+    print_memory(rt, RangeMap::new(alloc))?;
+    print_taken(rt, RangeMap::new(alloc))
+}
+
+/// Maps with keys of several kinds, and a set.
+fn print_kinds(rt: &impl Print, alloc: Global) -> io::Result<()> {
+    print_counts(rt, alloc)?;
+    print_texts(rt, alloc, BTreeMap::new(alloc))?;
+    print_log(rt, BTreeMap::new(alloc))?;
+    print_shelves(rt, alloc, BTreeSet::new(alloc))?;
+    print_orders(rt, BTreeMap::new(alloc))
+}
+
 fn main(rt: HostRuntime) -> io::Result<()> {
-    let mut stock: BTreeMap<u32, u64> = BTreeMap::new(rt.alloc());
-    print_stock(&rt, &mut stock)?;
-    print_page(&rt, rt.alloc(), &mut stock)?;
-    print_missing(&rt, rt.alloc(), &stock)?;
+    print_parts(&rt, rt.alloc())?;
     print_renumbered(&rt, rt.alloc())?;
     print_bookings(&rt, rt.alloc())?;
-    print_blocks(&rt, rt.alloc())?;
-    print_memory(&rt, rt.alloc())?;
-    print_taken(&rt, rt.alloc())?;
-    print_counts(&rt, rt.alloc())?;
-    print_texts(&rt, rt.alloc())?;
-    print_log(&rt, rt.alloc())?;
-    print_shelves(&rt, rt.alloc())?;
+    print_ranges(&rt, rt.alloc())?;
+    print_kinds(&rt, rt.alloc())?;
     print_visits(&rt)?;
     print_cache(&rt)?;
-    print_orders(&rt, rt.alloc())?;
-    print_files(&rt)?;
-    print_copies(&rt, stock)
+    print_files(&rt, BTreeMap::new(rt.alloc()))
 }
