@@ -13,6 +13,7 @@ mod things;
 use crate::desk::{Pair, set_out};
 use crate::gates::{Gates, make_gates};
 use crate::stores::{Open, Stores};
+use crate::things::Thing;
 use book_text::{Desk, Desks, Ending, serve};
 use btree_more_stores::{FixedSlab, Gate, OddSlab};
 use btree_node::Node;
@@ -52,23 +53,28 @@ fn check_arguments(rt: &impl Env) -> Result<(), Ending> {
     }
 }
 
-// Serves the lines of standard input on two desks, of which the second one has stores that are refused nodes and memory.
-fn serve_desks<P: Desk + Drop>(
-    rt: &(impl Print + Input + AllocGlobal),
-    plain: P,
-) -> Result<(), Ending> {
-    let memory = Refusing::over(rt.alloc(), 0);
-    let origin = (&memory, &memory);
-    let refusing: Pair<RefusingSet<'_>, RefusingMap<'_>> = set_out((origin, origin));
-    serve_both(rt, &memory, plain, refusing)
+fn open_stores(alloc: Global) -> Stores<OverSlabs, OverTables, OverOdds, OverGates> {
+    Stores {
+        open: Open::Slab,
+        slab: set_out((alloc, alloc)),
+        table: set_out(((), ())),
+        odd: set_out((alloc, alloc)),
+        gate: make_gates(alloc),
+    }
 }
 
-fn serve_both<P: Desk + Drop, Q: Desk + Drop>(
+// Serves the lines of standard input on two desks, of which the second one has stores from these origins.
+fn serve_desks<P: Desk + Drop, R: Thing + Drop, M: Thing + Drop>(
     rt: &(impl Print + Input + AllocGlobal),
     memory: &Refusing<Global>,
     plain: P,
-    refusing: Q,
-) -> Result<(), Ending> {
+    origins: (R::Origin, M::Origin),
+) -> Result<(), Ending>
+where
+    R::Origin: Copy,
+    M::Origin: Copy,
+{
+    let refusing: Pair<R, M> = set_out(origins);
     let mut desks = Desks {
         plain,
         refusing,
@@ -78,55 +84,16 @@ fn serve_both<P: Desk + Drop, Q: Desk + Drop>(
     serve(rt.alloc(), memory, &mut desks, &mut input, &mut output)
 }
 
-// Each of these opens the stores of one kind, beside those that are open, so that no function names them all: it would take minutes to check.
-fn open_gates<S: Desk + Drop, T: Desk + Drop, O: Desk + Drop>(
-    rt: &(impl Print + Input + AllocGlobal),
-    slab: S,
-    table: T,
-    odd: O,
-) -> Result<(), Ending> {
-    let gate: OverGates = make_gates(rt.alloc());
-    serve_stores(rt, slab, table, odd, gate)
-}
-
-fn serve_stores<S: Desk + Drop, T: Desk + Drop, O: Desk + Drop, G: Desk + Drop>(
-    rt: &(impl Print + Input + AllocGlobal),
-    slab: S,
-    table: T,
-    odd: O,
-    gate: G,
-) -> Result<(), Ending> {
-    let stores = Stores {
-        open: Open::Slab,
-        slab,
-        table,
-        odd,
-        gate,
-    };
-    serve_desks(rt, stores)
-}
-
-fn open_odds<S: Desk + Drop, T: Desk + Drop>(
-    rt: &(impl Print + Input + AllocGlobal),
-    slab: S,
-    table: T,
-) -> Result<(), Ending> {
-    let odd: OverOdds = set_out((rt.alloc(), rt.alloc()));
-    open_gates(rt, slab, table, odd)
-}
-
-fn open_tables<S: Desk + Drop>(
-    rt: &(impl Print + Input + AllocGlobal),
-    slab: S,
-) -> Result<(), Ending> {
-    let table: OverTables = set_out(((), ()));
-    open_odds(rt, slab, table)
-}
-
 fn run(rt: &(impl Env + Input + Print + AllocGlobal)) -> Result<(), Ending> {
     check_arguments(rt)?;
-    let slab: OverSlabs = set_out((rt.alloc(), rt.alloc()));
-    open_tables(rt, slab)
+    let memory = Refusing::over(rt.alloc(), 0);
+    let origin = (&memory, &memory);
+    serve_desks::<Stores<OverSlabs, OverTables, OverOdds, OverGates>, RefusingSet, RefusingMap>(
+        rt,
+        &memory,
+        open_stores(rt.alloc()),
+        (origin, origin),
+    )
 }
 
 fn main(rt: HostRuntime) -> ExitCode {
