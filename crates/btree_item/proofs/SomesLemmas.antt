@@ -122,6 +122,16 @@ module _ {T : Type 0} where
   pub length-held : (n : ℕ) (slots : List (Option T)) → AreSome (take n slots) → n ≤ length slots → length (somes (take n slots)) ≡ n
   length-held n slots h within = length-somes (take n slots) h ∙ length-take-le n slots within
 
+  -- of a list in a fixed number of places: what is shown of it is as long as it is, and there is a place left if that is shorter than all
+  pub shown-length : (n places : ℕ) (slots : List (Option T)) (shown : List T) → somes (take n slots) ≡ shown → (length slots ≡ places) × (n ≤ places) × AreSome (take n slots) → length shown ≡ n
+  shown-length n places slots shown is kept =
+      sym (ap length is) ∙ length-held n slots kept.2 (omega (arith, kept.0, kept.1))
+
+  pub room-left : (n places : ℕ) (slots : List (Option T)) (shown : List T) → somes (take n slots) ≡ shown → (length slots ≡ places) × (n ≤ places) × AreSome (take n slots) → length shown < places → n < length slots
+  room-left n places slots shown is kept room =
+      let all = shown-length n places slots shown is kept in
+      omega (arith, all, room, kept.0)
+
   pub AreSome-store : (slots : List (Option T)) (n : ℕ) (x : T) → AreSome (take n slots) → n < length slots → AreSome (take (n + 1) (set slots n (Some x)))
   AreSome-store slots n x h within = rw (take_more_set slots n (Some x) within) (AreSome-push (take n slots) x h)
 

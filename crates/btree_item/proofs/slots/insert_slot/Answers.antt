@@ -1,4 +1,4 @@
-use Rattle.btree_item.proofs.Common.{◌≡◌, ◌+◌, ◌<◌, length, set, suc, ◌∙◌, ap, take, arith, insert}
+use Rattle.btree_item.proofs.Common.{◌≡◌, ◌+◌, ◌<◌, length, set, suc, refl, ◌∙◌, ap, take, arith, insert}
 use Rattle.btree_item.proofs.StoreLemmas.{carried-right, length-stored, read-at, stored}
 use Rattle.btree_item.proofs.slots.insert_slot.Goals as goal
 
@@ -19,3 +19,32 @@ loop-i-preserved g c =
           (read-at xs _ i _ c.replace-carried.result whole within c.replace-carried.ensures.value)
           ∙ c.loop-i.invariant.carried;
     }
+
+pub loop-i-init : goal.loop-i-init
+loop-i-init g c = record {
+  same = refl;
+  from = omega arith;
+  carried = refl;
+}
+
+pub as_mut_slice-requires : goal.as_mut_slice-requires
+as_mut_slice-requires g c = let fits = c.well_formed in omega arith
+
+pub bounds-as_mut_slice-i : goal.bounds-as_mut_slice-i
+bounds-as_mut_slice-i g c =
+    let same = c.loop-i.invariant.same in
+    rw c.as_mut_slice.ensures.value (omega (arith, c.requires.room, same, c.loop-i-test.true))
+
+pub loop-i-smaller : goal.loop-i-smaller
+loop-i-smaller g c = omega (arith, c.loop-i-test.true)
+
+pub as_mut_slice-requires-2 : goal.as_mut_slice-requires-2
+as_mut_slice-requires-2 g c = let fits = c.well_formed in omega arith
+
+pub bounds-as_mut_slice-len : goal.bounds-as_mut_slice-len
+bounds-as_mut_slice-len g c =
+    let same = c.loop-i.invariant.same in
+    rw c.as_mut_slice-2.ensures.value (omega (arith, c.requires.room, same))
+
+pub returns-clause-same : goal.returns-clause-same
+returns-clause-same g c = length-stored c.loop-i.slots.items _ c.args.len c.loop-i.carried c.as_mut_slice-2.ensures.value ∙ c.loop-i.invariant.same

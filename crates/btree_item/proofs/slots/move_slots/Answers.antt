@@ -1,4 +1,4 @@
-use Rattle.btree_item.proofs.Common.{◌≡◌, ◌+◌, ◌<◌, ◌++◌, suc, length, take, drop, set, ap, ◌∙◌, arith, refill}
+use Rattle.btree_item.proofs.Common.{◌≡◌, ◌+◌, ◌<◌, ◌++◌, refl, suc, length, take, drop, set, ap, ◌∙◌, arith, refill}
 use Rattle.btree_item.proofs.StoreLemmas.{length-stored, moved-next, read-at, stored, stored-after-from}
 use Rattle.btree_item.proofs.slots.move_slots.Goals as goal
 
@@ -28,3 +28,42 @@ loop-i-preserved g c =
           ∙ moved-next xs ys c.args.len i k c.take.new.self c.take.result below within room (read-at xs _ i _ c.take.result whole within c.take.ensures.value)
           ∙ c.loop-i.invariant.rest;
     }
+
+pub loop-i-init : goal.loop-i-init
+loop-i-init g c = record {
+  same = refl;
+  same_to = refl;
+  from = omega arith;
+  place = omega arith;
+  front = refl;
+  rest = refl;
+}
+
+pub as_mut_slice-requires : goal.as_mut_slice-requires
+as_mut_slice-requires g c = let fits = c.well_formed in omega arith
+
+pub bounds-as_mut_slice-i : goal.bounds-as_mut_slice-i
+bounds-as_mut_slice-i g c =
+    let same = c.loop-i.invariant.same in
+    rw c.as_mut_slice.ensures.value (omega (arith, c.requires.fits, same, c.loop-i-test.true))
+
+pub as_mut_slice-requires-in-loop-i : goal.as_mut_slice-requires-in-loop-i
+as_mut_slice-requires-in-loop-i g c = let fits = c.well_formed in omega arith
+
+pub bounds-as_mut_slice-place : goal.bounds-as_mut_slice-place
+bounds-as_mut_slice-place g c =
+    let same = c.loop-i.invariant.same_to in
+    let place = c.loop-i.invariant.place in
+    rw c.as_mut_slice-in-loop-i.ensures.value (omega (arith, c.requires.room, same, place, c.loop-i-test.true, c.loop-i.invariant.from))
+
+pub loop-i-smaller : goal.loop-i-smaller
+loop-i-smaller g c = omega (arith, c.loop-i-test.true)
+
+pub returns-clause-left : goal.returns-clause-left
+returns-clause-left g c = c.loop-i.invariant.front
+
+pub returns-clause-same : goal.returns-clause-same
+returns-clause-same g c = c.loop-i.invariant.same
+
+pub returns-clause-same_to : goal.returns-clause-same_to
+returns-clause-same_to g c = c.loop-i.invariant.same_to

@@ -1,4 +1,4 @@
-use Rattle.btree_item.proofs.Common.{◌≡◌, ℕ, ◌-◌, ◌<◌, ◌≤◌, List, suc, length, take, set, get_or, sym, ap, ◌∙◌, arith, insert, refill}
+use Rattle.btree_item.proofs.Common.{◌≡◌, ℕ, ◌-◌, ◌<◌, ◌≤◌, List, refl, suc, length, take, set, get_or, sym, ap, ◌∙◌, arith, insert, refill}
 use Rattle.btree_item.proofs.StoreLemmas.{carried-left, inserted-last, length-stored, read-at, removed-others, removed-there, stored, stored-after}
 use Rattle.btree_item.proofs.slots.remove_slot.Goals as goal
 
@@ -58,3 +58,39 @@ returns-clause-after g c =
     let fits : n - 1 ≤ length c.loop-i.slots.items = (let s = c.loop-i.invariant.same in let f = c.requires.fits in omega (arith, s, f, long)) in
     let below : c.args.index ≤ n - 1 = (let w = c.requires.within in omega (arith, w)) in
     removed-others c.loop-i.slots.items _ (n - 1) c.args.index c.loop-i.carried fits below (ap (λ k. insert (take (n - 1) c.loop-i.slots.items) k c.loop-i.carried) (sym at) ∙ all)
+
+pub overflow_sub-i : goal.overflow_sub-i
+overflow_sub-i g c = omega (arith, c.requires.within)
+
+pub as_mut_slice-requires : goal.as_mut_slice-requires
+as_mut_slice-requires g c = let fits = c.well_formed in omega arith
+
+pub bounds-as_mut_slice-i : goal.bounds-as_mut_slice-i
+bounds-as_mut_slice-i g c = rw c.as_mut_slice.ensures.value (omega (arith, c.requires.within, c.requires.fits))
+
+pub loop-i-init : goal.loop-i-init
+loop-i-init g c = record {
+  same = refl;
+  within = omega (arith, c.requires.within);
+  from = omega (arith, c.requires.within);
+  carried = refl;
+}
+
+pub overflow_sub-i-in-loop-i : goal.overflow_sub-i-in-loop-i
+overflow_sub-i-in-loop-i g c = omega (arith, c.loop-i-test.true)
+
+pub as_mut_slice-requires-in-loop-i : goal.as_mut_slice-requires-in-loop-i
+as_mut_slice-requires-in-loop-i g c = let fits = c.well_formed in omega arith
+
+pub bounds-as_mut_slice-i-in-loop-i : goal.bounds-as_mut_slice-i-in-loop-i
+bounds-as_mut_slice-i-in-loop-i g c =
+    let long = length-stored c.args.slots.now.items _ (c.args.len - 1) c.take-carried.new.self c.as_mut_slice.ensures.value in
+    let same = c.loop-i.invariant.same in
+    rw c.as_mut_slice-in-loop-i.ensures.value (omega (arith, same, c.requires.fits, c.loop-i.invariant.within, c.loop-i-test.true, long))
+
+pub loop-i-smaller : goal.loop-i-smaller
+loop-i-smaller g c = omega (arith, c.loop-i-test.true)
+
+pub returns-clause-same : goal.returns-clause-same
+returns-clause-same g c =
+    c.loop-i.invariant.same ∙ length-stored c.args.slots.now.items _ (c.args.len - 1) c.take-carried.new.self c.as_mut_slice.ensures.value

@@ -1,5 +1,5 @@
 use Rattle.btree_item.proofs.Common.{◌≤◌, ◌∙◌, sym, ap, length, take, drop, arith, somes}
-use Rattle.btree_item.proofs.SomesLemmas.{AreSome-append, AreSome-drop, AreSome-take, length-held, somes-take}
+use Rattle.btree_item.proofs.SomesLemmas.{AreSome-append, AreSome-drop, AreSome-take, length-held, shown-length, somes-take}
 use Rattle.btree_item.proofs.StoreLemmas.{take-take}
 use Rattle.btree_item.proofs.slots.Slots.move_tail.Goals as goal
 
@@ -40,3 +40,14 @@ returns-clause-left g c =
     ap somes (c.move_slots.ensures.left ∙ sym (take-take c.args.at n xs within))
     ∙ somes-take (take n xs) c.args.at c.self.invariant.2
     ∙ ap (take c.args.at) c.self.view_is
+
+pub overflow_sub-to : goal.overflow_sub-to
+overflow_sub-to g c =
+    let held = shown-length _ _ _ c.args.self.now c.self.view_is c.self.invariant in
+    omega (arith, held, c.requires.within)
+
+pub overflow_add-to : goal.overflow_add-to
+overflow_add-to g c =
+    let held = shown-length _ _ _ c.args.self.now c.self.view_is c.self.invariant in
+    let held_to = shown-length _ _ _ c.args.to.now c.to.view_is c.to.invariant in
+    omega (arith, held, held_to, c.requires.room, g.N.fits)
