@@ -5,9 +5,6 @@ ghost use Rattle.std.specs.Prelude.{◌≡◌, ℕ, ◌+◌};
 
 use std::marker::{Model, PhantomData};
 
-#[cfg(test)]
-mod tests;
-
 /// A counter that takes no bytes and no time, for contracts to read. Only `tick` changes its count.
 pub struct Steps {
     marker: PhantomData<()>,

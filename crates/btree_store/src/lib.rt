@@ -7,8 +7,6 @@
 
 mod clone;
 mod slab_store;
-#[cfg(test)]
-mod tests;
 mod traits;
 
 pub use clone::SlabClone;

@@ -2,6 +2,8 @@
 #![tactic(auto)]
 
 #[cfg(test)]
+mod any_store;
+#[cfg(test)]
 mod asserts;
 #[cfg(test)]
 mod callers;
@@ -10,8 +12,12 @@ mod counted;
 #[cfg(test)]
 mod items;
 #[cfg(test)]
+mod many;
+#[cfg(test)]
 mod nodes;
 #[cfg(test)]
 mod other_stores;
+#[cfg(test)]
+mod steps;
 #[cfg(test)]
 mod stores;

@@ -1,13 +1,13 @@
 //! Two callers over any store, proved by its promises alone.
-#![tactic(auto, using(crate::specs::ContentLaws::stores))]
+#![tactic(auto, using(btree_store::specs::ContentLaws::stores))]
 
 ghost use Rattle.std.specs.Prelude.{◌≡◌, ℕ, ◌+◌, ◌<◌, ◌↔◌, Some, None, false, IsTrue, IsSome, IfSome, IfNone, OnSome, MatchOption};
 ghost use Rattle.std.specs.FinMap as map;
 
-use crate::SlabMut;
+use btree_store::SlabMut;
 
-/// Adds one to the value under `id`, if there is one that is not the greatest, and returns whether it did.
-pub fn raise<S: SlabMut<u32>>(store: &mut S, id: usize) -> bool
+// Adds one to the value under `id`, if there is one that is not the greatest, and returns whether it did.
+pub(crate) fn raise<S: SlabMut<u32>>(store: &mut S, id: usize) -> bool
     ensures raised { IsTrue result → IfSome (map.get (S.content store.old) id) (λ n.
         S.content store.new ≡ map.insert (S.content store.old) id (n + 1)) }
     ensures other { result ≡ false → S.content store.new ≡ S.content store.old }
@@ -26,8 +26,8 @@ pub fn raise<S: SlabMut<u32>>(store: &mut S, id: usize) -> bool
     }
 }
 
-/// Stores both values or neither.
-pub fn insert_both<S: SlabMut<u32>>(
+// Stores both values or neither.
+pub(crate) fn insert_both<S: SlabMut<u32>>(
     store: &mut S,
     first: u32,
     second: u32,
