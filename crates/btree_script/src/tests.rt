@@ -1,6 +1,9 @@
+mod asserts;
+
 ghost use Rattle.std.specs.Io.{WritesAtMost};
 
 use crate::{Ending, read_arguments, report, run, run_and_report};
+use asserts::{assert_same, assert_same_in};
 use btree_session::{Setup, Stop, setup};
 use std::alloc::Global;
 use std::cell::Cell;
@@ -106,23 +109,26 @@ fn asked(words: &[&str]) -> Option<Setup> {
     read_arguments(&only(words))
 }
 
-fn with(table: bool, limit: usize) -> Option<Setup> {
-    Some(Setup { table, limit })
+// Checks that arguments ask for a slab or a table, with a limit.
+fn check_asked(rt: &impl Abort, words: &[&str], table: bool, limit: usize) {
+    assert_same_in(rt, words.len(), asked(words), Some(Setup { table, limit }));
 }
 
 #[test]
 fn takes_a_table_and_a_limit(rt: HostRuntime) {
-    assert_eq!(rt; asked(&["btree_script"]), with(false, usize::MAX));
-    assert_eq!(rt; asked(&["btree_script", "table"]), with(true, usize::MAX));
-    assert_eq!(rt; asked(&["btree_script", "limit", "2"]), with(false, 2));
-    assert_eq!(rt;
-        asked(&["btree_script", "table", "limit", "20"]),
-        with(true, 20)
-    );
-    assert_eq!(rt;
-        asked(&["btree_script", "limit", "018446744073709551615"]),
-        with(false, 18446744073709551615)
-    );
+    for (words, table, limit) in [
+        (["btree_script"].as_slice(), false, usize::MAX),
+        (&["btree_script", "table"], true, usize::MAX),
+        (&["btree_script", "limit", "2"], false, 2),
+        (&["btree_script", "table", "limit", "20"], true, 20),
+        (
+            &["btree_script", "limit", "018446744073709551615"],
+            false,
+            18446744073709551615,
+        ),
+    ] {
+        check_asked(&rt, words, table, limit);
+    }
 }
 
 #[test]
@@ -143,7 +149,7 @@ fn takes_no_other_arguments(rt: HostRuntime) {
         &["btree_script", "table", "limit"],
         &["btree_script", "table", "limit", "2", "2"],
     ] {
-        assert_eq!(rt; asked(words), None);
+        assert_same(&rt, asked(words), None);
     }
 }
 
@@ -153,9 +159,9 @@ fn takes_no_long_argument(rt: HostRuntime) {
     let Ok(word) = str::from_utf8(&bytes) else {
         panic!(rt; "no text")
     };
-    assert_eq!(rt; asked(&["btree_script", word]), None);
-    assert_eq!(rt; asked(&["btree_script", "table", word]), None);
-    assert_eq!(rt; asked(&["btree_script", "limit", word]), None);
+    assert_same(&rt, asked(&["btree_script", word]), None);
+    assert_same(&rt, asked(&["btree_script", "table", word]), None);
+    assert_same(&rt, asked(&["btree_script", "limit", word]), None);
 }
 
 #[test]
@@ -165,11 +171,8 @@ fn takes_a_number_of_1024_digits(rt: HostRuntime) {
     let Ok(word) = str::from_utf8(&bytes) else {
         panic!(rt; "no text")
     };
-    assert_eq!(rt; asked(&["btree_script", "limit", word]), with(false, 7));
-    assert_eq!(rt;
-        asked(&["btree_script", "table", "limit", word]),
-        with(true, 7)
-    );
+    check_asked(&rt, &["btree_script", "limit", word], false, 7);
+    check_asked(&rt, &["btree_script", "table", "limit", word], true, 7);
 }
 
 #[test]
@@ -183,19 +186,24 @@ fn takes_no_bytes_that_are_no_text(rt: HostRuntime) {
         &["btree_script", "table", "limit", "2"],
     ] {
         let last = Some(b"\xff".as_slice());
-        assert_eq!(rt; read_arguments(&Words { words, last }), None);
+        assert_same(&rt, read_arguments(&Words { words, last }), None);
     }
 }
 
 #[test]
 fn only_a_table_and_a_limit_are_a_setup(rt: HostRuntime) {
-    assert_eq!(rt; setup(&[]), with(false, usize::MAX));
-    assert_eq!(rt; setup(&["table"]), with(true, usize::MAX));
-    assert_eq!(rt; setup(&["limit", "0"]), with(false, 0));
-    assert_eq!(rt;
-        setup(&["table", "limit", "18446744073709551615"]),
-        with(true, usize::MAX)
-    );
+    for (words, table, limit) in [
+        ([].as_slice(), false, usize::MAX),
+        (&["table"], true, usize::MAX),
+        (&["limit", "0"], false, 0),
+        (
+            &["table", "limit", "18446744073709551615"],
+            true,
+            usize::MAX,
+        ),
+    ] {
+        assert_same(&rt, setup(words), Some(Setup { table, limit }));
+    }
     for words in [
         ["tables"].as_slice(),
         &["tabl"],
@@ -213,18 +221,17 @@ fn only_a_table_and_a_limit_are_a_setup(rt: HostRuntime) {
         &["table", "2"],
         &["table", "limit", "2", "3"],
     ] {
-        assert_eq!(rt; setup(words), None);
+        assert_same(&rt, setup(words), None);
     }
 }
 
 #[test]
 fn says_which_arguments_there_are(rt: HostRuntime) -> Result<(), Fail> {
     let ending = Ending::WrongArguments;
-    assert_eq!(rt;
-        format!(in rt.alloc(); "{ending}")?.as_str(),
-        "usage: btree_script [table] [limit n]"
-    );
-    assert_eq!(rt; ending.status(), 1);
+    let mut text = String::new(rt.alloc());
+    write!(text, "{ending}")?;
+    assert_same(&rt, text.as_str(), "usage: btree_script [table] [limit n]");
+    assert_same(&rt, ending.status(), 1);
     Ok(())
 }
 
@@ -247,8 +254,8 @@ fn check_run(
     replies.push_str(rest)?;
     let (mut input, mut output) = (lines.as_bytes(), Vec::new(alloc));
     let end = run(&only(words), alloc, &mut input, &mut output);
-    assert_eq!(rt; end, Ok(()));
-    assert_eq!(rt; output.as_slice(), replies.as_bytes());
+    assert_same(rt, end, Ok(()));
+    assert_same(rt, output.as_slice(), replies.as_bytes());
     Ok(())
 }
 
@@ -270,8 +277,8 @@ fn serves_a_table_if_asked(rt: HostRuntime) -> Result<(), Fail> {
 fn check_lines(rt: &impl Abort, words: &[&str], lines: &str, replies: &str, alloc: Global) {
     let (mut input, mut output) = (lines.as_bytes(), Vec::new(alloc));
     let end = run(&only(words), alloc, &mut input, &mut output);
-    assert_eq!(rt; end, Ok(()));
-    assert_eq!(rt; output.as_slice(), replies.as_bytes());
+    assert_same(rt, end, Ok(()));
+    assert_same(rt, output.as_slice(), replies.as_bytes());
 }
 
 #[test]
@@ -305,8 +312,8 @@ fn says_how_a_run_ended(rt: HostRuntime) {
     ] {
         let (mut input, mut output) = (b"insert 1 10\njump\n".as_slice(), Vec::new(rt.alloc()));
         let found = run(&only(words), rt.alloc(), &mut input, &mut output);
-        assert_eq!(rt; found, Err(end));
-        assert_eq!(rt; output.as_slice(), replies);
+        assert_same(&rt, found, Err(end));
+        assert_same(&rt, output.as_slice(), replies);
     }
 }
 
@@ -370,8 +377,12 @@ fn each_limit_is_the_one_that_was_asked_for(rt: HostRuntime) -> Result<(), Fail>
 fn check_report(rt: &impl Abort, end: Result<(), Ending>, line: &str, lines: usize, alloc: Global) {
     let system = given(&[], line, alloc);
     let _ = report(&system, end);
-    assert_eq!(rt; system.lines.get(), lines, "{line}");
-    assert_eq!(rt; system.others.get(), 0, "{line}");
+    assert_same_in(
+        rt,
+        line,
+        (system.lines.get(), system.others.get()),
+        (lines, 0),
+    );
 }
 
 #[test]
@@ -410,9 +421,13 @@ fn check_whole_run(
     let system = given(words, line, alloc);
     let (mut input, mut output) = (lines, Vec::new(alloc));
     let _ = run_and_report(&system, alloc, &mut input, &mut output);
-    assert_eq!(rt; output.as_slice(), replies);
-    assert_eq!(rt; system.lines.get(), count, "{line}");
-    assert_eq!(rt; system.others.get(), 0, "{line}");
+    assert_same(rt, output.as_slice(), replies);
+    assert_same_in(
+        rt,
+        line,
+        (system.lines.get(), system.others.get()),
+        (count, 0),
+    );
 }
 
 #[test]
