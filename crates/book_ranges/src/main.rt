@@ -11,12 +11,11 @@ mod stores;
 mod things;
 
 use crate::desk::{Pair, set_out};
-use crate::gates::{Gates, make_gates};
+use crate::gates::{Gated, Gates, make_gates};
 use crate::stores::{Open, Stores};
-use crate::things::Thing;
 use book_text::{Desk, Desks, Ending, serve};
 use btree_more_stores::{FixedSlab, Gate, OddSlab};
-use btree_node::Node;
+use btree_node::{ClearNodes, Node};
 use btree_range_map::{RangeMap, Span};
 use btree_range_set::RangeSet;
 use btree_store::SlabStore;
@@ -31,20 +30,6 @@ type SetNode = Node<u64, u64>;
 
 type MapNode = Node<u64, Span<u64>>;
 
-// Over slabs, tables of two nodes, and slabs with odd numbers.
-type OverSlabs = Pair<RangeSet<SlabStore<SetNode>>, RangeMap<u64, SlabStore<MapNode>>>;
-
-type OverTables = Pair<RangeSet<FixedSlab<SetNode, 2>>, RangeMap<u64, FixedSlab<MapNode, 2>>>;
-
-type OverOdds = Pair<RangeSet<OddSlab<SetNode>>, RangeMap<u64, OddSlab<MapNode>>>;
-
-type OverGates = Gates<RangeSet<Gate<SlabStore<SetNode>>>, RangeMap<u64, Gate<SlabStore<MapNode>>>>;
-
-// Over slabs whose nodes and memory are refused.
-type RefusingSet<'m> = RangeSet<RefusingStore<'m, SlabStore<SetNode, &'m Refusing<Global>>>>;
-
-type RefusingMap<'m> = RangeMap<u64, RefusingStore<'m, SlabStore<MapNode, &'m Refusing<Global>>>>;
-
 // Takes no arguments; one that cannot be read is an argument too.
 fn check_arguments(rt: &impl Env) -> Result<(), Ending> {
     match rt.arg(1, &mut []) {
@@ -53,7 +38,28 @@ fn check_arguments(rt: &impl Env) -> Result<(), Ending> {
     }
 }
 
-fn open_stores(alloc: Global) -> Stores<OverSlabs, OverTables, OverOdds, OverGates> {
+// A set and a map over two stores.
+type OverStores<A, B> = Pair<RangeSet<A>, RangeMap<u64, B>>;
+
+// Pairs over four kinds of stores.
+type FourPairs<A, B, C, D, E, F, G, H> = Stores<
+    OverStores<A, B>,
+    OverStores<C, D>,
+    OverStores<E, F>,
+    Gates<G, H>,
+>;
+
+// Returns a desk over each of four kinds of stores: slabs, tables, slabs with odd numbers, and gates.
+fn open_stores<
+    A: ClearNodes<u64, u64, Origin = Global> + Drop,
+    B: ClearNodes<u64, Span<u64>, Origin = Global> + Drop,
+    C: ClearNodes<u64, u64, Origin = ()> + Drop,
+    D: ClearNodes<u64, Span<u64>, Origin = ()> + Drop,
+    E: ClearNodes<u64, u64, Origin = Global> + Drop,
+    F: ClearNodes<u64, Span<u64>, Origin = Global> + Drop,
+    G: Gated + Drop,
+    H: Gated + Drop,
+>(alloc: Global) -> FourPairs<A, B, C, D, E, F, G, H> {
     Stores {
         open: Open::Slab,
         slab: set_out((alloc, alloc)),
@@ -63,18 +69,13 @@ fn open_stores(alloc: Global) -> Stores<OverSlabs, OverTables, OverOdds, OverGat
     }
 }
 
-// Serves the lines of standard input on two desks, of which the second one has stores from these origins.
-fn serve_desks<P: Desk + Drop, R: Thing + Drop, M: Thing + Drop>(
+// Serves the lines of standard input on two desks.
+fn serve_desks<P: Desk + Drop, Q: Desk + Drop>(
     rt: &(impl Print + Input + AllocGlobal),
     memory: &Refusing<Global>,
     plain: P,
-    origins: (R::Origin, M::Origin),
-) -> Result<(), Ending>
-where
-    R::Origin: Copy,
-    M::Origin: Copy,
-{
-    let refusing: Pair<R, M> = set_out(origins);
+    refusing: Q,
+) -> Result<(), Ending> {
     let mut desks = Desks {
         plain,
         refusing,
@@ -84,16 +85,48 @@ where
     serve(rt.alloc(), memory, &mut desks, &mut input, &mut output)
 }
 
+// Serves the lines of standard input on two desks, the first one over four kinds of stores, and the second one over stores from these origins.
+fn serve_stores<
+    A: ClearNodes<u64, u64, Origin = Global> + Drop,
+    B: ClearNodes<u64, Span<u64>, Origin = Global> + Drop,
+    C: ClearNodes<u64, u64, Origin = ()> + Drop,
+    D: ClearNodes<u64, Span<u64>, Origin = ()> + Drop,
+    E: ClearNodes<u64, u64, Origin = Global> + Drop,
+    F: ClearNodes<u64, Span<u64>, Origin = Global> + Drop,
+    G: Gated + Drop,
+    H: Gated + Drop,
+    I: ClearNodes<u64, u64> + Drop,
+    J: ClearNodes<u64, Span<u64>> + Drop,
+>(
+    rt: &(impl Print + Input + AllocGlobal),
+    memory: &Refusing<Global>,
+    origins: (I::Origin, J::Origin),
+) -> Result<(), Ending>
+where
+    I::Origin: Copy,
+    J::Origin: Copy,
+{
+    let plain: FourPairs<A, B, C, D, E, F, G, H> = open_stores(rt.alloc());
+    let refusing: OverStores<I, J> = set_out(origins);
+    serve_desks(rt, memory, plain, refusing)
+}
+
 fn run(rt: &(impl Env + Input + Print + AllocGlobal)) -> Result<(), Ending> {
     check_arguments(rt)?;
     let memory = Refusing::over(rt.alloc(), 0);
     let origin = (&memory, &memory);
-    serve_desks::<Stores<OverSlabs, OverTables, OverOdds, OverGates>, RefusingSet, RefusingMap>(
-        rt,
-        &memory,
-        open_stores(rt.alloc()),
-        (origin, origin),
-    )
+    serve_stores::<
+        SlabStore<SetNode>,
+        SlabStore<MapNode>,
+        FixedSlab<SetNode, 2>,
+        FixedSlab<MapNode, 2>,
+        OddSlab<SetNode>,
+        OddSlab<MapNode>,
+        RangeSet<Gate<SlabStore<SetNode>>>,
+        RangeMap<u64, Gate<SlabStore<MapNode>>>,
+        RefusingStore<'_, SlabStore<SetNode, &Refusing<Global>>>,
+        RefusingStore<'_, SlabStore<MapNode, &Refusing<Global>>>,
+    >(rt, &memory, (origin, origin))
 }
 
 fn main(rt: HostRuntime) -> ExitCode {
