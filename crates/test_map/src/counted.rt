@@ -12,18 +12,28 @@ use std::ops::RangeBounds;
 use std::process::Abort;
 use test_support::Counted;
 
+/// A key or an element with a number, which counts how often it is compared.
+pub(crate) trait Counting<'a> {
+    fn counting(number: u32, compared: &'a Cell<u32>) -> Self;
+}
+
+impl<'a> Counting<'a> for Counted<'a> {
+    fn counting(number: u32, compared: &'a Cell<u32>) -> Counted<'a> {
+        Counted { number, compared }
+    }
+}
+
 type Store<'a> = SlabStore<Node<Counted<'a>, u32>>;
 
-type Map<'a, C> = BTreeMap<Counted<'a>, u32, C>;
-
 // Asks for a key in three ways, each of which compares at most `most` keys.
-fn ask<'a, C: NodesMut<Counted<'a>, u32>>(
+fn ask<'a, K: Ord + Drop + Counting<'a>, C: NodesMut<K, u32>>(
     rt: &impl Abort,
-    map: &mut BTreeMap<Counted<'a>, u32, C>,
-    key: Counted<'a>,
+    map: &mut BTreeMap<K, u32, C>,
+    number: u32,
+    compared: &'a Cell<u32>,
     most: u32,
 ) {
-    let (number, compared) = (key.number, key.compared);
+    let key = K::counting(number, compared);
     let is_there = number % 2 == 1;
     compared.set(0);
     let contains = map.contains_key(&key);
@@ -45,13 +55,14 @@ fn ask<'a, C: NodesMut<Counted<'a>, u32>>(
 
 // Finds the address of a key, and removes the key if it is there, by itself or as a query, each with no more comparisons than a look-up
 // makes. Puts the key back.
-fn remove_once<'a, C: NodesMut<Counted<'a>, u32>>(
+fn remove_once<'a, K: Ord + Drop + Counting<'a>, C: NodesMut<K, u32>>(
     rt: &impl Abort,
-    map: &mut BTreeMap<Counted<'a>, u32, C>,
-    key: Counted<'a>,
+    map: &mut BTreeMap<K, u32, C>,
+    number: u32,
+    compared: &'a Cell<u32>,
     is_query: bool,
 ) {
-    let (number, compared) = (key.number, key.compared);
+    let key = K::counting(number, compared);
     compared.set(0);
     let is_there = map.contains_key(&key);
     let most = compared.get();
@@ -98,39 +109,37 @@ fn seek_beside<K: Ord, C: NodesMut<K, u32>>(
     seek_place(rt, &*map, &After(key), compared, 36);
 }
 
-// The same over any store: the odd keys up to 87, on three levels.
-fn asks_in<'a, C: NodesMut<Counted<'a>, u32> + Drop>(
+// The same in a map that is empty, for the odd keys up to 87, on three levels.
+fn asks_in<'a, K: Ord + Drop + Counting<'a>, C: NodesMut<K, u32> + Drop>(
     rt: &impl Abort,
     compared: &'a Cell<u32>,
-    origin: C::Origin,
+    mut map: BTreeMap<K, u32, C>,
 ) {
-    let mut map: BTreeMap<Counted<'a>, u32, C> = BTreeMap::new(origin);
     for value in 0..44u32 {
         let number = 2 * value + 1;
         assert_same_in(
             rt,
             number,
-            map.insert(Counted { number, compared }, value).ok(),
+            map.insert(K::counting(number, compared), value).ok(),
             Some(None),
         );
     }
     assert_same_in(rt, 0u32, map.height(), 3);
     for number in 0..89u32 {
-        ask(rt, &mut map, Counted { number, compared }, 18);
-        remove_once(rt, &mut map, Counted { number, compared }, false);
-        remove_once(rt, &mut map, Counted { number, compared }, true);
-        let key = Counted { number, compared };
-        seek_beside(rt, &map, &key, compared);
+        ask(rt, &mut map, number, compared, 18);
+        remove_once(rt, &mut map, number, compared, false);
+        remove_once(rt, &mut map, number, compared, true);
+        seek_beside(rt, &map, &K::counting(number, compared), compared);
     }
 }
 
 // Inserts a number where a cursor is. Returns how many comparisons that makes, or `None` if it does not fit there or is refused.
-fn inserts_at_cursor<'a, C: NodesMut<Counted<'a>, u32>>(
+fn inserts_at_cursor<'a, K: Ord + Drop + Counting<'a>, C: NodesMut<K, u32>>(
     compared: &'a Cell<u32>,
-    entries: &mut EntriesMut<'_, Counted<'a>, u32, C>,
+    entries: &mut EntriesMut<'_, K, u32, C>,
     number: u32,
 ) -> Option<u32> {
-    let key = Counted { number, compared };
+    let key = K::counting(number, compared);
     if !entries.fits(&key) {
         return None;
     }
@@ -142,12 +151,12 @@ fn inserts_at_cursor<'a, C: NodesMut<Counted<'a>, u32>>(
 }
 
 // Inserts a number that is absent by its entry. Returns how many comparisons that makes after the search, or `None` if it is refused.
-fn inserts_at_entry<'a, C: NodesMut<Counted<'a>, u32>>(
+fn inserts_at_entry<'a, K: Ord + Drop + Counting<'a>, C: NodesMut<K, u32>>(
     compared: &'a Cell<u32>,
-    map: &mut Map<'a, C>,
+    map: &mut BTreeMap<K, u32, C>,
     number: u32,
 ) -> Option<u32> {
-    let Entry::Vacant(vacant) = map.entry(Counted { number, compared }) else {
+    let Entry::Vacant(vacant) = map.entry(K::counting(number, compared)) else {
         return None;
     };
     compared.set(0);
@@ -158,12 +167,12 @@ fn inserts_at_entry<'a, C: NodesMut<Counted<'a>, u32>>(
 }
 
 // Enters a number, which may be there, by its entry. Returns how many comparisons that makes after the search, or `None` if it is refused.
-fn enters<'a, C: NodesMut<Counted<'a>, u32>>(
+fn enters<'a, K: Ord + Drop + Counting<'a>, C: NodesMut<K, u32>>(
     compared: &'a Cell<u32>,
-    map: &mut Map<'a, C>,
+    map: &mut BTreeMap<K, u32, C>,
     number: u32,
 ) -> Option<u32> {
-    let entry = map.entry(Counted { number, compared });
+    let entry = map.entry(K::counting(number, compared));
     compared.set(0);
     match entry.insert_entry(number) {
         Ok(_) => Some(compared.get()),
@@ -172,12 +181,12 @@ fn enters<'a, C: NodesMut<Counted<'a>, u32>>(
 }
 
 // Removes a number by its entry. Returns how many comparisons that makes after the search, or `None` if it is absent.
-fn removes_at_entry<'a, C: NodesMut<Counted<'a>, u32>>(
+fn removes_at_entry<'a, K: Ord + Drop + Counting<'a>, C: NodesMut<K, u32>>(
     compared: &'a Cell<u32>,
-    map: &mut Map<'a, C>,
+    map: &mut BTreeMap<K, u32, C>,
     number: u32,
 ) -> Option<u32> {
-    let Entry::Occupied(occupied) = map.entry(Counted { number, compared }) else {
+    let Entry::Occupied(occupied) = map.entry(K::counting(number, compared)) else {
         return None;
     };
     compared.set(0);
@@ -186,10 +195,10 @@ fn removes_at_entry<'a, C: NodesMut<Counted<'a>, u32>>(
 }
 
 // A cursor inserts the odd numbers up to 87 between the even ones, and removes all.
-fn edits_by_cursor<'a, C: NodesMut<Counted<'a>, u32>>(
+fn edits_by_cursor<'a, K: Ord + Drop + Counting<'a>, C: NodesMut<K, u32>>(
     rt: &impl Abort,
     compared: &'a Cell<u32>,
-    map: &mut Map<'a, C>,
+    map: &mut BTreeMap<K, u32, C>,
 ) {
     let mut entries = map.entries_mut();
     for half in 0..44u32 {
@@ -205,14 +214,13 @@ fn edits_by_cursor<'a, C: NodesMut<Counted<'a>, u32>>(
     assert_same(rt, compared.get(), 0);
 }
 
-// Entries insert the even numbers below 88 before a cursor edits, and after it insert those below 44, enter 44 from 22 on, and remove those
-// below 44.
-fn edits_in<'a, C: NodesMut<Counted<'a>, u32> + Drop>(
+// Entries insert the even numbers below 88 into a map that is empty, before a cursor edits, and after it insert those below 44, enter 44 from
+// 22 on, and remove those below 44.
+fn edits_in<'a, K: Ord + Drop + Counting<'a>, C: NodesMut<K, u32> + Drop>(
     rt: &impl Abort,
     compared: &'a Cell<u32>,
-    origin: C::Origin,
+    mut map: BTreeMap<K, u32, C>,
 ) {
-    let mut map: Map<'a, C> = BTreeMap::new(origin);
     for half in 0..44u32 {
         let made = inserts_at_entry(compared, &mut map, 2 * half);
         assert_same_in(rt, half, made, Some(0));
@@ -232,16 +240,15 @@ fn edits_in<'a, C: NodesMut<Counted<'a>, u32> + Drop>(
     }
 }
 
-// A map of the numbers from one up to another.
-fn numbers<'a, C: NodesMut<Counted<'a>, u32> + Drop>(
+// Puts the numbers from one up to another into a map that is empty, and returns it.
+fn numbers<'a, K: Ord + Drop + Counting<'a>, C: NodesMut<K, u32>>(
     rt: &impl Abort,
     compared: &'a Cell<u32>,
-    origin: C::Origin,
+    mut map: BTreeMap<K, u32, C>,
     (start, end): (u32, u32),
-) -> Map<'a, C> {
-    let mut map: Map<'a, C> = BTreeMap::new(origin);
+) -> BTreeMap<K, u32, C> {
     for number in start..end {
-        let replaced = map.insert(Counted { number, compared }, number).ok();
+        let replaced = map.insert(K::counting(number, compared), number).ok();
         assert_same_in(rt, number, replaced, Some(None));
     }
     map
@@ -269,20 +276,14 @@ fn remove_counted<K: Ord + Drop, R: RangeBounds<K>, C: NodesMut<K, u32>>(
     compared.get()
 }
 
-fn removes_range<'a, C: NodesMut<Counted<'a>, u32> + Drop>(
+fn removes_range<'a, K: Ord + Drop + Counting<'a>, C: NodesMut<K, u32> + Drop>(
     compared: &'a Cell<u32>,
-    map: Map<'a, C>,
+    map: BTreeMap<K, u32, C>,
     (start, end): (u32, u32),
 ) -> (usize, u32) {
     let mut map = map;
-    let low = Counted {
-        number: start,
-        compared,
-    };
-    let high = Counted {
-        number: end,
-        compared,
-    };
+    let low = K::counting(start, compared);
+    let high = K::counting(end, compared);
     let made = remove_counted(&mut map, low..high, compared);
     (map.len(), made)
 }
@@ -308,10 +309,10 @@ fn copy_pairs<K: Ord + Copy + Drop, V: Copy + Drop, C: NodesMut<K, V>>(
 }
 
 // Extends a map by the pairs of another one, or by copies of them. Returns how many comparisons it made, or `None` if a pair was refused.
-fn extends<'a, C: NodesMut<Counted<'a>, u32> + Drop>(
+fn extends<'a, K: Ord + Copy + Drop + Counting<'a>, C: NodesMut<K, u32> + Drop>(
     compared: &'a Cell<u32>,
-    map: &mut Map<'a, C>,
-    from: Map<'a, C>,
+    map: &mut BTreeMap<K, u32, C>,
+    from: BTreeMap<K, u32, C>,
     copies: bool,
 ) -> Option<u32> {
     compared.set(0);
@@ -324,31 +325,28 @@ fn extends<'a, C: NodesMut<Counted<'a>, u32> + Drop>(
 }
 
 // Returns how many comparisons an insertion makes.
-fn inserts<'a, C: NodesMut<Counted<'a>, u32>>(
+fn inserts<'a, K: Ord + Drop + Counting<'a>, C: NodesMut<K, u32>>(
     compared: &'a Cell<u32>,
-    map: &mut Map<'a, C>,
+    map: &mut BTreeMap<K, u32, C>,
     number: u32,
 ) -> u32 {
     compared.set(0);
-    drop(map.insert(Counted { number, compared }, number));
+    drop(map.insert(K::counting(number, compared), number));
     compared.get()
 }
 
 // 44 pairs into an empty map make 43 comparisons, the next 44 one each. Of two that are not above the last one, the first makes one more than
-// an insertion, and the other as many as an insertion.
-fn extends_in<'a, C: NodesMut<Counted<'a>, u32> + Drop>(
+// an insertion, and the other as many as an insertion. The maps are empty.
+fn extends_in<'a, K: Ord + Copy + Drop + Counting<'a>, C: NodesMut<K, u32> + Drop>(
     rt: &impl Abort,
     compared: &'a Cell<u32>,
-    origin: C::Origin,
+    (low, high): (BTreeMap<K, u32, C>, BTreeMap<K, u32, C>),
+    (two, mut map): (BTreeMap<K, u32, C>, BTreeMap<K, u32, C>),
     copies: bool,
-)
-where
-    C::Origin: Copy,
-{
-    let low: Map<'a, C> = numbers(rt, compared, origin, (0, 44));
-    let high: Map<'a, C> = numbers(rt, compared, origin, (44, 88));
-    let two: Map<'a, C> = numbers(rt, compared, origin, (30, 32));
-    let mut map: Map<'a, C> = BTreeMap::new(origin);
+) {
+    let low = numbers(rt, compared, low, (0, 44));
+    let high = numbers(rt, compared, high, (44, 88));
+    let two = numbers(rt, compared, two, (30, 32));
     assert_same(rt, extends(compared, &mut map, low, copies), Some(43));
     assert_same(rt, extends(compared, &mut map, high, copies), Some(44));
     let first = inserts(compared, &mut map, 30);
@@ -357,30 +355,45 @@ where
     assert_same(rt, extends(compared, &mut map, two, copies), Some(sum));
 }
 
-// Makes a set of 44 ascending elements by 43 comparisons, and extends it by the next 44, by one each. Of two that are not above the last one,
-// the first makes one more than an insertion, and the other as many as an insertion.
-fn extends_set<'a, C: NodesMut<Counted<'a>, ()> + Drop>(
+// Returns a map without pairs.
+fn empty<'a, C: NodesMut<Counted<'a>, u32>>(origin: C::Origin) -> BTreeMap<Counted<'a>, u32, C> {
+    BTreeMap::new(origin)
+}
+
+// Removes each range from a map of its own.
+fn removes_ranges<'a, C: NodesMut<Counted<'a>, u32> + Drop>(
     rt: &impl Abort,
     compared: &'a Cell<u32>,
     origin: C::Origin,
-) {
-    let mut low = (0..44u32).map(move |number| Counted { number, compared });
-    let Ok(set) = BTreeSet::<Counted<'a>, C>::from_iter(origin, &mut low) else {
-        panic!(rt; "refused")
-    };
-    let mut set = set;
-    assert_same(rt, compared.replace(0), 43);
-    let mut high = (44..88u32).map(move |number| Counted { number, compared });
-    assert_true(rt, set.extend(&mut high).is_ok());
-    assert_same(rt, compared.replace(0), 44);
-    for number in 30..32u32 {
-        let inserted = set.insert(Counted { number, compared }).ok();
-        assert_same(rt, inserted, Some(false));
+)
+where
+    C::Origin: Copy,
+{
+    for (range, left, most) in RANGES {
+        let map = numbers(rt, compared, empty::<C>(origin), (0, 44));
+        let (len, made) = removes_range(compared, map, range);
+        assert_same_in(rt, range.0, len, left);
+        assert_true_in(rt, range.0, made <= most);
     }
-    let sought = compared.replace(0);
-    let mut two = (30..32u32).map(move |number| Counted { number, compared });
-    assert_true(rt, set.extend(&mut two).is_ok());
-    assert_same(rt, compared.get(), sought.wrapping_add(1));
+}
+
+// All of these, over maps in any store.
+fn compares_in<'a, C: NodesMut<Counted<'a>, u32> + Drop>(
+    rt: &impl Abort,
+    compared: &'a Cell<u32>,
+    origin: C::Origin,
+)
+where
+    C::Origin: Copy,
+{
+    asks_in(rt, compared, empty::<C>(origin));
+    edits_in(rt, compared, empty::<C>(origin));
+    removes_ranges::<C>(rt, compared, origin);
+    for copies in [false, true] {
+        let (low, high) = (empty::<C>(origin), empty::<C>(origin));
+        let (two, map) = (empty::<C>(origin), empty::<C>(origin));
+        extends_in(rt, compared, (low, high), (two, map), copies);
+    }
 }
 
 // Returns a set of the numbers from one up to another.
@@ -397,6 +410,27 @@ fn elements<'a, C: NodesMut<Counted<'a>, ()> + Drop>(
     }
 }
 
+// Extends a set of 44 ascending elements, which was made by 43 comparisons, by the next 44, by one each. Of two that are not above the last
+// one, the first makes one more than an insertion, and the other as many as an insertion.
+fn extends_set<'a, K: Ord + Drop + Counting<'a>, C: NodesMut<K, ()> + Drop>(
+    rt: &impl Abort,
+    compared: &'a Cell<u32>,
+    mut set: BTreeSet<K, C>,
+) {
+    assert_same(rt, compared.replace(0), 43);
+    let mut high = (44..88u32).map(move |number| K::counting(number, compared));
+    assert_true(rt, set.extend(&mut high).is_ok());
+    assert_same(rt, compared.replace(0), 44);
+    for number in 30..32u32 {
+        let inserted = set.insert(K::counting(number, compared)).ok();
+        assert_same(rt, inserted, Some(false));
+    }
+    let sought = compared.replace(0);
+    let mut two = (30..32u32).map(move |number| K::counting(number, compared));
+    assert_true(rt, set.extend(&mut two).is_ok());
+    assert_same(rt, compared.get(), sought.wrapping_add(1));
+}
+
 // Extends a set by copies of the elements of another one. Returns whether none was refused.
 fn copy_elements<T: Ord + Copy + Drop, C: NodesMut<T, ()>>(
     set: &mut BTreeSet<T, C>,
@@ -406,26 +440,20 @@ fn copy_elements<T: Ord + Copy + Drop, C: NodesMut<T, ()>>(
     set.extend_copied(&mut source).is_ok()
 }
 
-// The numbers of `extends_set` for copies of the elements.
-fn copies_set<'a, C: NodesMut<Counted<'a>, ()> + Drop>(
+// The numbers of `extends_set` for copies of the elements of three sets, into one that is empty.
+fn copies_set<'a, K: Ord + Copy + Drop + Counting<'a>, C: NodesMut<K, ()> + Drop>(
     rt: &impl Abort,
     compared: &'a Cell<u32>,
-    origin: C::Origin,
-)
-where
-    C::Origin: Copy,
-{
-    let low: BTreeSet<Counted<'a>, C> = elements(rt, compared, origin, (0, 44));
-    let high: BTreeSet<Counted<'a>, C> = elements(rt, compared, origin, (44, 88));
-    let two: BTreeSet<Counted<'a>, C> = elements(rt, compared, origin, (30, 32));
-    let mut set: BTreeSet<Counted<'a>, C> = BTreeSet::new(origin);
+    mut set: BTreeSet<K, C>,
+    (low, high, two): (BTreeSet<K, C>, BTreeSet<K, C>, BTreeSet<K, C>),
+) {
     compared.set(0);
     assert_true(rt, copy_elements(&mut set, &low));
     assert_same(rt, compared.replace(0), 43);
     assert_true(rt, copy_elements(&mut set, &high));
     assert_same(rt, compared.replace(0), 44);
     for number in 30..32u32 {
-        let inserted = set.insert(Counted { number, compared }).ok();
+        let inserted = set.insert(K::counting(number, compared)).ok();
         assert_same(rt, inserted, Some(false));
     }
     let sought = compared.replace(0);
@@ -433,24 +461,32 @@ where
     assert_same(rt, compared.get(), sought.wrapping_add(1));
 }
 
+// Both, over sets in any store.
+fn compares_elements<'a, C: NodesMut<Counted<'a>, ()> + Drop>(
+    rt: &impl Abort,
+    compared: &'a Cell<u32>,
+    origin: C::Origin,
+)
+where
+    C::Origin: Copy,
+{
+    compared.set(0);
+    let set = elements::<C>(rt, compared, origin, (0, 44));
+    extends_set(rt, compared, set);
+    let low = elements::<C>(rt, compared, origin, (0, 44));
+    let high = elements::<C>(rt, compared, origin, (44, 88));
+    let two = elements::<C>(rt, compared, origin, (30, 32));
+    copies_set(rt, compared, BTreeSet::new(origin), (low, high, two));
+}
+
 #[test]
 fn keys_are_compared_once(rt: HostRuntime) {
     let compared = Cell::new(0u32);
-    asks_in::<Store<'_>>(&rt, &compared, rt.alloc());
-    edits_in::<Store<'_>>(&rt, &compared, rt.alloc());
-    for (range, left, most) in RANGES {
-        let map = numbers::<Store<'_>>(&rt, &compared, rt.alloc(), (0, 44));
-        let (len, made) = removes_range(&compared, map, range);
-        assert_same_in(&rt, range.0, len, left);
-        assert_true_in(&rt, range.0, made <= most);
-    }
-    extends_in::<Store<'_>>(&rt, &compared, rt.alloc(), false);
-    extends_in::<Store<'_>>(&rt, &compared, rt.alloc(), true);
+    compares_in::<Store<'_>>(&rt, &compared, rt.alloc());
 }
 
 #[test]
 fn elements_are_compared_once(rt: HostRuntime) {
     let compared = Cell::new(0u32);
-    extends_set::<SlabStore<Node<Counted<'_>, ()>>>(&rt, &compared, rt.alloc());
-    copies_set::<SlabStore<Node<Counted<'_>, ()>>>(&rt, &compared, rt.alloc());
+    compares_elements::<SlabStore<Node<Counted<'_>, ()>>>(&rt, &compared, rt.alloc());
 }

@@ -1,19 +1,18 @@
 //! Values that count their drops: each is dropped once, by an iterator that owns a map, by a drain, and by `retain`.
 use crate::asserts::{assert_same, assert_true};
-use crate::drops::{Counted, hundred};
+use crate::drops::{Counted, Dropping, hundred};
 use btree_ext::BTreeExt;
 use btree_map::{BTreeMap, IntoIter};
 use btree_node::{Node, NodesMut};
 use btree_store::SlabStore;
-use std::alloc::Global;
 use std::cell::Cell;
 use std::process::Abort;
 
 // Checks that a pair is there, and that its value knows its key.
-fn check_pair(rt: &impl Abort, pair: Option<(u64, Counted<'_>)>, key: u64) {
+fn check_pair<'a, V: Drop + Dropping<'a>>(rt: &impl Abort, pair: Option<(u64, V)>, key: u64) {
     match pair {
         Some((found, value)) => {
-            assert_same(rt, (found, value.key), (key, key));
+            assert_same(rt, (found, value.key()), (key, key));
         }
         None => panic!(rt; "{key} is not there"),
     }
@@ -29,9 +28,9 @@ fn check_ended<V: Drop, C: NodesMut<u64, V> + Drop>(rt: &impl Abort, pairs: Into
 }
 
 // Takes a hundred pairs, in each step from the front or from the back as it is that step's turn. Each key comes with its own value.
-fn take_in_turns<'a, C: NodesMut<u64, Counted<'a>> + Drop>(
+fn take_in_turns<'a, V: Drop + Dropping<'a>, C: NodesMut<u64, V> + Drop>(
     rt: &impl Abort,
-    map: BTreeMap<u64, Counted<'a>, C>,
+    map: BTreeMap<u64, V, C>,
     drops: &Cell<u64>,
     turns: [bool; 2],
 ) {
@@ -53,7 +52,6 @@ fn take_in_turns<'a, C: NodesMut<u64, Counted<'a>> + Drop>(
     assert_same(rt, drops.get(), 100);
 }
 
-// From the front, from the back, and from both in turn with either first.
 // Takes so many pairs of a hundred, in each step from the front or from the back as it is that step's turn, and drops the others.
 fn take_some<V: Drop, C: NodesMut<u64, V> + Drop>(
     rt: &impl Abort,
@@ -77,7 +75,6 @@ fn take_some<V: Drop, C: NodesMut<u64, V> + Drop>(
     assert_same(rt, drops.get(), 100);
 }
 
-// After each number of pairs, from the front, from the back and from both in turn.
 // Takes so many of the odd keys that a drain picks, each of which is dropped, and drops the drain.
 fn take_odd<V: Drop, C: NodesMut<u64, V>>(
     rt: &impl Abort,
@@ -109,15 +106,15 @@ fn drain_and_retain<V: Drop, C: NodesMut<u64, V> + Drop>(
 }
 
 // Sets a value by the entry of a key that is there, removes a range of ten keys, and drops what is left.
-fn set_and_remove<'a, C: NodesMut<u64, Counted<'a>> + Drop>(
+fn set_and_remove<'a, V: Drop + Dropping<'a>, C: NodesMut<u64, V> + Drop>(
     rt: &impl Abort,
-    map: BTreeMap<u64, Counted<'a>, C>,
+    map: BTreeMap<u64, V, C>,
     drops: &'a Cell<u64>,
 ) {
     let mut map = map;
-    let value = Counted { key: 5, drops };
+    let value = V::dropping(5, drops);
     match map.entry(5).insert_entry(value) {
-        Ok(entry) => assert_same(rt, (*entry.key(), entry.get().key), (5, 5)),
+        Ok(entry) => assert_same(rt, (*entry.key(), entry.get().key()), (5, 5)),
         Err(_) => panic!(rt; "refused"),
     }
     assert_same(rt, drops.get(), 1);
@@ -149,31 +146,45 @@ fn split<'a, C: NodesMut<u64, Counted<'a>> + Drop>(
     assert_same(rt, drops.get(), 100);
 }
 
-type HeapMap<'a> = BTreeMap<u64, Counted<'a>, SlabStore<Node<u64, Counted<'a>>>>;
-
 // Returns a map of a hundred values, of which none is dropped yet.
-fn fresh<'a>(rt: &impl Abort, alloc: Global, drops: &'a Cell<u64>) -> HeapMap<'a> {
+fn fresh<'a, C: NodesMut<u64, Counted<'a>> + Drop>(
+    rt: &impl Abort,
+    origin: C::Origin,
+    drops: &'a Cell<u64>,
+) -> BTreeMap<u64, Counted<'a>, C> {
     drops.set(0);
-    let Some(map) = hundred(alloc, drops) else {
+    let Some(map) = hundred(BTreeMap::new(origin), drops) else {
         panic!(rt; "no memory")
     };
     map
 }
 
-#[test]
-fn each_value_is_dropped_once(rt: HostRuntime) {
-    let drops = Cell::new(0u64);
+// All of these, over maps in any store.
+fn drop_in<'a, C: NodesMut<u64, Counted<'a>> + Drop>(
+    rt: &impl Abort,
+    origin: C::Origin,
+    drops: &'a Cell<u64>,
+)
+where
+    C::Origin: Copy,
+{
     for turns in [[true, true], [false, false], [true, false], [false, true]] {
-        take_in_turns(&rt, fresh(&rt, rt.alloc(), &drops), &drops, turns);
+        take_in_turns(rt, fresh::<C>(rt, origin, drops), drops, turns);
     }
     for taken in 0..101u64 {
         for turns in [[true, true], [false, false], [true, false]] {
-            take_some(&rt, fresh(&rt, rt.alloc(), &drops), &drops, turns, taken);
+            take_some(rt, fresh::<C>(rt, origin, drops), drops, turns, taken);
         }
     }
     for count in [0, 1, 25, 50] {
-        drain_and_retain(&rt, fresh(&rt, rt.alloc(), &drops), &drops, count);
+        drain_and_retain(rt, fresh::<C>(rt, origin, drops), drops, count);
     }
-    set_and_remove(&rt, fresh(&rt, rt.alloc(), &drops), &drops);
-    split(&rt, fresh(&rt, rt.alloc(), &drops), rt.alloc(), &drops);
+    set_and_remove(rt, fresh::<C>(rt, origin, drops), drops);
+    split(rt, fresh::<C>(rt, origin, drops), origin, drops);
+}
+
+#[test]
+fn each_value_is_dropped_once(rt: HostRuntime) {
+    let drops = Cell::new(0u64);
+    drop_in::<SlabStore<Node<u64, Counted<'_>>>>(&rt, rt.alloc(), &drops);
 }

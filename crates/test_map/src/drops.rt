@@ -1,8 +1,6 @@
 //! A map whose values count how many of them are dropped.
 use btree_map::BTreeMap;
-use btree_node::Node;
-use btree_store::SlabStore;
-use std::alloc::Global;
+use btree_node::NodesMut;
 use std::cell::Cell;
 
 /// A value that knows its key, and counts how many of its kind are dropped.
@@ -18,16 +16,30 @@ impl<'a> Drop for Counted<'a> {
     }
 }
 
-/// Returns the map of the keys from 0 to 99, or `None` if memory ran out.
-pub(crate) fn hundred<'a>(
-    alloc: Global,
+/// A value that knows its key, and counts its drop.
+pub(crate) trait Dropping<'a> {
+    fn dropping(key: u64, drops: &'a Cell<u64>) -> Self;
+
+    fn key(&self) -> u64;
+}
+
+impl<'a> Dropping<'a> for Counted<'a> {
+    fn dropping(key: u64, drops: &'a Cell<u64>) -> Counted<'a> {
+        Counted { key, drops }
+    }
+
+    fn key(&self) -> u64 {
+        self.key
+    }
+}
+
+/// Inserts the keys from 0 to 99 into a map that is empty. Returns it, or `None` if memory ran out.
+pub(crate) fn hundred<'a, V: Drop + Dropping<'a>, C: NodesMut<u64, V> + Drop>(
+    mut map: BTreeMap<u64, V, C>,
     drops: &'a Cell<u64>,
-) -> Option<BTreeMap<u64, Counted<'a>, SlabStore<Node<u64, Counted<'a>>>>> {
-    let mut map: BTreeMap<u64, Counted<'a>, SlabStore<Node<u64, Counted<'a>>>> = BTreeMap::new(
-        alloc,
-    );
+) -> Option<BTreeMap<u64, V, C>> {
     for key in 0..100u64 {
-        if map.insert(key, Counted { key, drops }).is_err() {
+        if map.insert(key, V::dropping(key, drops)).is_err() {
             return None;
         }
     }

@@ -107,13 +107,22 @@ fn update_in_one<C: NodesMut<u64, u64> + Drop>(rt: &impl Abort, mut map: BTreeMa
     assert_same(rt, (map.len(), map.get(&3).copied()), (7, None));
 }
 
-#[test]
-fn a_table_of_one_node_hands_back(rt: HostRuntime) {
-    append_to_one::<Table<1>>(&rt, first_keys(&rt, (), 8), BTreeMap::new(()));
-    update_in_one::<Table<1>>(&rt, first_keys(&rt, (), 8));
+// Both, over any store of one node.
+fn hand_back<C: NodesMut<u64, u64> + Drop>(rt: &impl Abort, origin: C::Origin)
+where
+    C::Origin: Copy,
+{
+    append_to_one::<C>(rt, first_keys(rt, origin, 8), BTreeMap::new(origin));
+    update_in_one::<C>(rt, first_keys(rt, origin, 8));
 }
 
-fn clone_table<C: CloneNodes<u64, u64> + Drop>(rt: &impl Abort, map: BTreeMap<u64, u64, C>) {
+#[test]
+fn a_table_of_one_node_hands_back(rt: HostRuntime) {
+    hand_back::<Table<1>>(&rt, ());
+}
+
+fn clone_table<C: CloneNodes<u64, u64> + Drop>(rt: &impl Abort, origin: C::Origin) {
+    let map = first_keys::<C>(rt, origin, 43);
     match map.clone() {
         Ok(copy) => {
             assert_true(rt, copy == map);
@@ -125,7 +134,7 @@ fn clone_table<C: CloneNodes<u64, u64> + Drop>(rt: &impl Abort, map: BTreeMap<u6
 
 #[test]
 fn a_table_is_cloned(rt: HostRuntime) {
-    clone_table::<Table<11>>(&rt, first_keys(&rt, (), 43));
+    clone_table::<Table<11>>(&rt, ());
 }
 
 // Inserts three keys for each node of a table, below 100 and each so far after the one before.
@@ -201,5 +210,5 @@ fn collect_nine<C: NodesMut<u64, u64> + Drop>(rt: &impl Abort, origin: C::Origin
 
 #[test]
 fn a_table_of_one_node_collects_eight_pairs(rt: HostRuntime) {
-    collect_nine::<FixedSlab<Node<u64, u64>, 1>>(&rt, ());
+    collect_nine::<Table<1>>(&rt, ());
 }

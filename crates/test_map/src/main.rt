@@ -39,16 +39,20 @@ mod released;
 #[cfg(test)]
 mod samples;
 
-use crate::drops::hundred;
-use btree_map::IntoIter;
+use crate::drops::{Counted, hundred};
+use btree_map::{BTreeMap, IntoIter};
+use btree_node::Node;
+use btree_store::SlabStore;
 use std::alloc::AllocError;
 use std::cell::Cell;
 use std::io;
 
+type Store<'a> = SlabStore<Node<u64, Counted<'a>>>;
+
 // Takes ten pairs from each end, drops the iterator, and prints how many values were dropped before and after that.
 fn main(rt: HostRuntime) -> io::Result<()> {
     let drops = Cell::new(0u64);
-    let Some(map) = hundred(rt.alloc(), &drops) else {
+    let Some(map) = hundred::<Counted<'_>, Store<'_>>(BTreeMap::new(rt.alloc()), &drops) else {
         return Err(AllocError.into());
     };
     let mut pairs = IntoIter::new(map);

@@ -2,6 +2,7 @@
 ghost use Rattle.std.specs.Iterator.{IsFinite};
 
 use crate::asserts::{assert_same, assert_true};
+use crate::counted::Counting;
 use btree_node::{Node, NodesMut};
 use btree_set::BTreeSet;
 use btree_store::SlabStore;
@@ -9,23 +10,20 @@ use std::cell::Cell;
 use std::process::Abort;
 use test_support::Counted;
 
-type CountedSet<'a> = BTreeSet<Counted<'a>, SlabStore<Node<Counted<'a>, ()>>>;
+type Store<'a> = SlabStore<Node<Counted<'a>, ()>>;
 
 // Inserts the numbers into a set that is empty, and returns it.
-fn counted<'a, C: NodesMut<Counted<'a>, ()>>(
+fn counted<'a, K: Ord + Drop + Counting<'a>, C: NodesMut<K, ()>>(
     rt: &impl Abort,
-    set: BTreeSet<Counted<'a>, C>,
+    set: BTreeSet<K, C>,
     compared: &'a Cell<u32>,
     numbers: &[u32],
-) -> BTreeSet<Counted<'a>, C> {
+) -> BTreeSet<K, C> {
     let mut set = set;
     for number in numbers {
         let number = *number;
-        assert_same(
-            rt,
-            set.insert(Counted { number, compared }).ok(),
-            Some(true),
-        );
+        let inserted = set.insert(K::counting(number, compared)).ok();
+        assert_same(rt, inserted, Some(true));
     }
     set
 }
@@ -82,10 +80,10 @@ fn check_ends<K: Ord, C: NodesMut<K, ()>>(
 
 // Merges two sets. They have 10 and 7 numbers. Four are in both, the greatest among them: so neither ends before the other, and each of the
 // 13 numbers is one step.
-fn merge_counted<'a, C: NodesMut<Counted<'a>, ()> + Drop>(
+fn merge_counted<'a, K: Ord + Drop + Counting<'a>, C: NodesMut<K, ()> + Drop>(
     rt: &impl Abort,
-    left: BTreeSet<Counted<'a>, C>,
-    right: BTreeSet<Counted<'a>, C>,
+    left: BTreeSet<K, C>,
+    right: BTreeSet<K, C>,
     compared: &'a Cell<u32>,
 ) {
     let left = counted(rt, left, compared, &[0, 2, 4, 6, 8, 10, 12, 14, 16, 18]);
@@ -97,7 +95,6 @@ fn merge_counted<'a, C: NodesMut<Counted<'a>, ()> + Drop>(
 #[test]
 fn a_step_of_a_merge_compares_once(rt: HostRuntime) {
     let compared = Cell::new(0u32);
-    let left: CountedSet<'_> = BTreeSet::new(rt.alloc());
-    let right: CountedSet<'_> = BTreeSet::new(rt.alloc());
-    merge_counted(&rt, left, right, &compared);
+    let (left, right) = (BTreeSet::new(rt.alloc()), BTreeSet::new(rt.alloc()));
+    merge_counted::<Counted<'_>, Store<'_>>(&rt, left, right, &compared);
 }

@@ -1,7 +1,7 @@
 //! Sixteen keys and values of which each one's drops are counted: the n-th digit of a sum to base 16 says how often that of the number n was
 //! dropped. So one that is dropped twice does not make up for one that is not.
 use crate::asserts::{assert_same, assert_same_in, assert_true};
-use crate::released::CountedKey;
+use crate::released::{CountedKey, Weighed};
 use btree_item::Refused;
 use btree_map::{BTreeMap, Entry};
 use btree_node::{ClearNodes, Node, NodesMut};
@@ -12,9 +12,13 @@ use std::cell::Cell;
 use std::process::Abort;
 use test_support::{Refusing, RefusingStore};
 
-type Pairs<'a, C> = BTreeMap<CountedKey<'a>, CountedKey<'a>, C>;
+type Pairs<K, C> = BTreeMap<K, K, C>;
 
 type PairNode<'a> = Node<CountedKey<'a>, CountedKey<'a>>;
+
+type PairStore<'a> = SlabStore<PairNode<'a>>;
+
+type ElementStore<'a> = SlabStore<Node<CountedKey<'a>, ()>>;
 
 // Every number once.
 const ALL: u64 = 0x1111_1111_1111_1111;
@@ -34,16 +38,12 @@ impl Sums<'_> {
     }
 }
 
-fn counted<'a>(number: u64, drops: &'a Cell<u64>) -> CountedKey<'a> {
+fn counted<'a, K: Weighed<'a>>(number: u64, drops: &'a Cell<u64>) -> K {
     let weight = 16u64.wrapping_pow(u32::try_from(number).unwrap_or(0));
-    CountedKey {
-        number,
-        weight,
-        drops,
-    }
+    K::weighed(number, weight, drops)
 }
 
-fn pair<'a>(number: u64, sums: Sums<'a>) -> (CountedKey<'a>, CountedKey<'a>) {
+fn pair<'a, K: Weighed<'a>>(number: u64, sums: Sums<'a>) -> (K, K) {
     (counted(number, sums.keys), counted(number, sums.values))
 }
 
@@ -52,9 +52,9 @@ fn check(rt: &impl Abort, sums: Sums<'_>, keys: u64, values: u64) {
 }
 
 // Inserts the numbers from one to before another.
-fn put<'a, C: NodesMut<CountedKey<'a>, CountedKey<'a>>>(
+fn put<'a, K: Ord + Drop + Weighed<'a>, C: NodesMut<K, K>>(
     rt: &impl Abort,
-    map: &mut Pairs<'a, C>,
+    map: &mut Pairs<K, C>,
     sums: Sums<'a>,
     from: u64,
     to: u64,
@@ -87,9 +87,9 @@ fn drain_even<K: Even + Ord + Drop, V: Drop, C: NodesMut<K, V>>(
 
 // Drops keys and values of a map that is empty in each way: an equal key and the value that its own replaces, a pair that is replaced, pairs
 // that are drained, one that is removed, those that are cleared, and those of the map itself.
-fn drop_each<'a, C: ClearNodes<CountedKey<'a>, CountedKey<'a>> + Drop>(
+fn drop_each<'a, K: Even + Ord + Drop + Weighed<'a>, C: ClearNodes<K, K> + Drop>(
     rt: &impl Abort,
-    mut map: Pairs<'a, C>,
+    mut map: Pairs<K, C>,
     sums: Sums<'a>,
 ) {
     put(rt, &mut map, sums, 0, 16);
@@ -111,11 +111,21 @@ fn drop_each<'a, C: ClearNodes<CountedKey<'a>, CountedKey<'a>> + Drop>(
     check(rt, sums, 0x2222_2222_2232_3232, 0x2222_2222_2232_3222);
 }
 
+// Updates the pair with a key, and keeps its value. Returns whether that was not refused.
+fn keep<K: Ord + Drop, V: Drop, C: NodesMut<K, V>>(map: &mut BTreeMap<K, V, C>, key: K) -> bool {
+    map.update(key, |value| (value, ())).is_ok()
+}
+
+// Updates the pair with a key, and removes it. Returns whether that was not refused.
+fn unset<K: Ord + Drop, V: Drop, C: NodesMut<K, V>>(map: &mut BTreeMap<K, V, C>, key: K) -> bool {
+    map.update(key, |value| (None, value.is_some())).is_ok()
+}
+
 // Drops what is not kept at a key that is there: of an entry the key that is asked for, a default, and a key whose value is removed; of an
 // update the key that is given, and a pair that is removed.
-fn drop_at_keys<'a, C: NodesMut<CountedKey<'a>, CountedKey<'a>> + Drop>(
+fn drop_at_keys<'a, K: Ord + Drop + Weighed<'a>, C: NodesMut<K, K> + Drop>(
     rt: &impl Abort,
-    mut map: Pairs<'a, C>,
+    mut map: Pairs<K, C>,
     sums: Sums<'a>,
 ) {
     put(rt, &mut map, sums, 0, 16);
@@ -129,11 +139,9 @@ fn drop_at_keys<'a, C: NodesMut<CountedKey<'a>, CountedKey<'a>> + Drop>(
     check(rt, sums, 0x20_1000, 0x1000);
     drop(value);
     check(rt, sums, 0x20_1000, 0x10_1000);
-    let kept = map.update(counted(7, sums.keys), |value| (value, ()));
-    assert_true(rt, kept.is_ok());
+    assert_true(rt, keep(&mut map, counted(7, sums.keys)));
     check(rt, sums, 0x1020_1000, 0x10_1000);
-    let removed = map.update(counted(9, sums.keys), |value| (None, value.is_some()));
-    assert_true(rt, removed.is_ok());
+    assert_true(rt, unset(&mut map, counted(9, sums.keys)));
     check(rt, sums, 0x20_1020_1000, 0x10_0010_1000);
     drop(map);
     check(rt, sums, 0x1111_1121_2121_2111, 0x1111_1111_1111_2111);
@@ -141,14 +149,14 @@ fn drop_at_keys<'a, C: NodesMut<CountedKey<'a>, CountedKey<'a>> + Drop>(
 
 // Extends a map of sixteen pairs by two that it has, and appends two others that it has. It drops the keys that come, and the values that are
 // replaced.
-fn replace_values<'a, C: NodesMut<CountedKey<'a>, CountedKey<'a>> + Drop>(
+fn replace_values<'a, K: Ord + Drop + Weighed<'a>, C: NodesMut<K, K> + Drop>(
     rt: &impl Abort,
-    maps: (Pairs<'a, C>, Pairs<'a, C>),
+    maps: (Pairs<K, C>, Pairs<K, C>),
     sums: Sums<'a>,
 ) {
     let (mut map, mut other) = maps;
     put(rt, &mut map, sums, 0, 16);
-    let mut source = (2..4u64).map(move |number| pair(number, sums));
+    let mut source = (2..4u64).map(move |number| pair::<K>(number, sums));
     assert_true(rt, map.extend(&mut source).is_ok());
     check(rt, sums, 0x1100, 0x1100);
     put(rt, &mut other, sums, 7, 9);
@@ -161,9 +169,9 @@ fn replace_values<'a, C: NodesMut<CountedKey<'a>, CountedKey<'a>> + Drop>(
 }
 
 // Takes a key from each end of an iterator that owns a map. A value is dropped in the step that gives its key.
-fn take_keys<'a, C: NodesMut<CountedKey<'a>, CountedKey<'a>> + Drop>(
+fn take_keys<'a, K: Ord + Drop + Weighed<'a>, C: NodesMut<K, K> + Drop>(
     rt: &impl Abort,
-    mut map: Pairs<'a, C>,
+    mut map: Pairs<K, C>,
     sums: Sums<'a>,
 ) {
     put(rt, &mut map, sums, 0, 16);
@@ -179,9 +187,9 @@ fn take_keys<'a, C: NodesMut<CountedKey<'a>, CountedKey<'a>> + Drop>(
 }
 
 // The same for values.
-fn take_values<'a, C: NodesMut<CountedKey<'a>, CountedKey<'a>> + Drop>(
+fn take_values<'a, K: Ord + Drop + Weighed<'a>, C: NodesMut<K, K> + Drop>(
     rt: &impl Abort,
-    mut map: Pairs<'a, C>,
+    mut map: Pairs<K, C>,
     sums: Sums<'a>,
 ) {
     put(rt, &mut map, sums, 0, 16);
@@ -207,9 +215,9 @@ fn drain_even_elements<T: Even + Ord + Drop, C: NodesMut<T, ()>>(
 
 // Drops elements of a set that is empty in each way: an equal one, one that is replaced, those that are drained, one that is removed, and those
 // of the set itself.
-fn drop_elements<'a, C: NodesMut<CountedKey<'a>, ()> + Drop>(
+fn drop_elements<'a, K: Even + Ord + Drop + Weighed<'a>, C: NodesMut<K, ()> + Drop>(
     rt: &impl Abort,
-    mut set: BTreeSet<CountedKey<'a>, C>,
+    mut set: BTreeSet<K, C>,
     drops: &'a Cell<u64>,
 ) {
     for number in 0..16u64 {
@@ -230,19 +238,19 @@ fn drop_elements<'a, C: NodesMut<CountedKey<'a>, ()> + Drop>(
 }
 
 // Extends a set of sixteen elements by two that it has, and appends two others that it has. Those that come are dropped.
-fn repeat_elements<'a, C: NodesMut<CountedKey<'a>, ()> + Drop>(
+fn repeat_elements<'a, K: Ord + Drop + Weighed<'a>, C: NodesMut<K, ()> + Drop>(
     rt: &impl Abort,
-    sets: (BTreeSet<CountedKey<'a>, C>, BTreeSet<CountedKey<'a>, C>),
+    sets: (BTreeSet<K, C>, BTreeSet<K, C>),
     drops: &'a Cell<u64>,
 ) {
     let (mut set, mut other) = sets;
-    let mut source = (0..16u64).map(move |number| counted(number, drops));
+    let mut source = (0..16u64).map(move |number| counted::<K>(number, drops));
     assert_true(rt, set.extend(&mut source).is_ok());
     assert_same(rt, drops.get(), 0);
-    let mut again = (2..4u64).map(move |number| counted(number, drops));
+    let mut again = (2..4u64).map(move |number| counted::<K>(number, drops));
     assert_true(rt, set.extend(&mut again).is_ok());
     assert_same(rt, drops.get(), 0x1100);
-    let mut more = (7..9u64).map(move |number| counted(number, drops));
+    let mut more = (7..9u64).map(move |number| counted::<K>(number, drops));
     assert_true(rt, other.extend(&mut more).is_ok());
     assert_true(rt, set.append(&mut other).is_ok());
     assert_same(rt, drops.get(), 0x1_1000_1100);
@@ -259,48 +267,47 @@ fn each_key_and_value_is_dropped_once(rt: HostRuntime) {
         keys: &keys,
         values: &values,
     };
-    drop_each::<SlabStore<PairNode<'_>>>(&rt, BTreeMap::new(rt.alloc()), sums);
+    drop_each::<CountedKey<'_>, PairStore<'_>>(&rt, BTreeMap::new(rt.alloc()), sums);
     sums.begin();
-    drop_at_keys::<SlabStore<PairNode<'_>>>(&rt, BTreeMap::new(rt.alloc()), sums);
+    drop_at_keys::<CountedKey<'_>, PairStore<'_>>(&rt, BTreeMap::new(rt.alloc()), sums);
     sums.begin();
     let maps = (BTreeMap::new(rt.alloc()), BTreeMap::new(rt.alloc()));
-    replace_values::<SlabStore<PairNode<'_>>>(&rt, maps, sums);
+    replace_values::<CountedKey<'_>, PairStore<'_>>(&rt, maps, sums);
     sums.begin();
-    take_keys::<SlabStore<PairNode<'_>>>(&rt, BTreeMap::new(rt.alloc()), sums);
+    take_keys::<CountedKey<'_>, PairStore<'_>>(&rt, BTreeMap::new(rt.alloc()), sums);
     sums.begin();
-    take_values::<SlabStore<PairNode<'_>>>(&rt, BTreeMap::new(rt.alloc()), sums);
+    take_values::<CountedKey<'_>, PairStore<'_>>(&rt, BTreeMap::new(rt.alloc()), sums);
 }
 
 #[test]
 fn each_element_is_dropped_once(rt: HostRuntime) {
     let drops = Cell::new(0u64);
     let sets = (BTreeSet::new(rt.alloc()), BTreeSet::new(rt.alloc()));
-    repeat_elements::<SlabStore<Node<CountedKey<'_>, ()>>>(&rt, sets, &drops);
+    repeat_elements::<CountedKey<'_>, ElementStore<'_>>(&rt, sets, &drops);
     drops.set(0);
-    drop_elements::<SlabStore<Node<CountedKey<'_>, ()>>>(&rt, BTreeSet::new(rt.alloc()), &drops);
+    drop_elements::<CountedKey<'_>, ElementStore<'_>>(&rt, BTreeSet::new(rt.alloc()), &drops);
 }
 
 // Drops what a call returned. Nothing was dropped by the call. Returns the number that was refused, if one was.
-fn drop_refused<'a>(
+fn drop_refused<'a, K: Drop + Weighed<'a>>(
     rt: &impl Abort,
-    answer: Result<(), Refused<CountedKey<'a>, CountedKey<'a>>>,
+    answer: Result<(), Refused<K, K>>,
     sums: Sums<'a>,
 ) -> Option<u64> {
     check(rt, sums, 0, 0);
     match answer {
         Ok(()) => None,
-        Err(back) => Some(back.key.number),
+        Err(back) => Some(back.key.number()),
     }
 }
 
 // Extends an empty map by sixteen pairs. Returns the number that was refused, and the sums after its pair is dropped and after the map is.
-fn extend_some<'a, C: NodesMut<CountedKey<'a>, CountedKey<'a>> + Drop>(
+fn extend_some<'a, K: Ord + Drop + Weighed<'a>, C: NodesMut<K, K> + Drop>(
     rt: &impl Abort,
-    origin: C::Origin,
+    mut map: Pairs<K, C>,
     sums: Sums<'a>,
 ) -> (Option<u64>, u64, u64) {
-    let mut map: Pairs<'a, C> = BTreeMap::new(origin);
-    let mut source = (0..16u64).map(move |number| pair(number, sums));
+    let mut source = (0..16u64).map(move |number| pair::<K>(number, sums));
     let answer = map.extend(&mut source);
     let refused = drop_refused(rt, answer, sums);
     let came_back = sums.keys.get();
@@ -334,15 +341,16 @@ fn a_refused_extension_drops_each_pair_once(rt: HostRuntime) {
             keys: &keys,
             values: &values,
         };
-        let found = extend_some::<Refuses<'_, '_>>(&rt, (&memory, &memory), sums);
+        let map = BTreeMap::new((&memory, &memory));
+        let found = extend_some::<CountedKey<'_>, Refuses<'_, '_>>(&rt, map, sums);
         assert_same_in(&rt, nth, found, expected);
     }
 }
 
 // Appends fifteen pairs to a map of one. Returns the number that was refused, and the sums after its pair is dropped, and after the other map.
-fn append_some<'a, C: NodesMut<CountedKey<'a>, CountedKey<'a>> + Drop>(
+fn append_some<'a, K: Ord + Drop + Weighed<'a>, C: NodesMut<K, K> + Drop>(
     rt: &impl Abort,
-    maps: (Pairs<'a, C>, Pairs<'a, C>),
+    maps: (Pairs<K, C>, Pairs<K, C>),
     memory: &Refusing<Global>,
     nth: u64,
     sums: Sums<'a>,
@@ -385,7 +393,7 @@ fn a_refused_append_drops_each_pair_once(rt: HostRuntime) {
             BTreeMap::new((&memory, &memory)),
             BTreeMap::new((&memory, &memory)),
         );
-        let found = append_some::<Refuses<'_, '_>>(&rt, maps, &memory, nth, sums);
+        let found = append_some::<CountedKey<'_>, Refuses<'_, '_>>(&rt, maps, &memory, nth, sums);
         assert_same_in(&rt, nth, found, expected);
     }
 }

@@ -171,10 +171,18 @@ fn count_levels<C: NodesMut<String, u64> + Drop>(
     assert_same(rt, count_between(&map, &BeforeAll, &"2"), 10);
 }
 
+// Both, over any store.
+fn find_texts<C: NodesMut<String, u64> + Drop>(rt: &impl Abort, origin: C::Origin, alloc: Global)
+where
+    C::Origin: Copy,
+{
+    count_words::<C>(rt, origin, alloc);
+    count_levels::<C>(rt, origin, alloc);
+}
+
 #[test]
 fn texts_are_found(rt: HostRuntime) {
-    count_words::<SlabStore<Node<String, u64>>>(&rt, rt.alloc(), rt.alloc());
-    count_levels::<SlabStore<Node<String, u64>>>(&rt, rt.alloc(), rt.alloc());
+    find_texts::<SlabStore<Node<String, u64>>>(&rt, rt.alloc(), rt.alloc());
 }
 
 #[test]

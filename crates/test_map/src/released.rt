@@ -6,7 +6,7 @@ ghost use Rattle.std.specs.Cmp.Rules.{comparing};
 ghost use Rattle.std.specs.Ordering.{as_partial_cmp, nat_cmp, on};
 
 use crate::asserts::{assert_same, assert_true};
-use crate::drops::{Counted, hundred};
+use crate::drops::{Counted, Dropping, hundred};
 use btree_map::{BTreeMap, IntoIter};
 use btree_node::{ClearNodes, Node, NodesMut};
 use btree_store::SlabStore;
@@ -72,22 +72,43 @@ impl Ord for CountedKey<'_> {
     }
 }
 
+/// A key or a value with a number, which adds its weight to a sum as it is dropped.
+pub(crate) trait Weighed<'a> {
+    fn weighed(number: u64, weight: u64, drops: &'a Cell<u64>) -> Self;
+
+    fn number(&self) -> u64;
+}
+
+impl<'a> Weighed<'a> for CountedKey<'a> {
+    fn weighed(number: u64, weight: u64, drops: &'a Cell<u64>) -> CountedKey<'a> {
+        CountedKey {
+            number,
+            weight,
+            drops,
+        }
+    }
+
+    fn number(&self) -> u64 {
+        self.number
+    }
+}
+
 type KeyStore<'a> = SlabStore<Node<CountedKey<'a>, u64>>;
 
+type ValueStore<'a> = SlabStore<Node<u64, Counted<'a>>>;
+
+type Refuses<'m, 'a> = RefusingStore<'m, SlabStore<Node<u64, Counted<'a>>, &'m Refusing<Global>>>;
+
 // Inserts a hundred keys into a map that is empty, and then equal ones, each of which is dropped at once. Returns the map.
-fn with_keys<'a, C: NodesMut<CountedKey<'a>, u64>>(
+fn with_keys<'a, K: Ord + Drop + Weighed<'a>, C: NodesMut<K, u64>>(
     rt: &impl Abort,
-    map: BTreeMap<CountedKey<'a>, u64, C>,
+    map: BTreeMap<K, u64, C>,
     drops: &'a Cell<u64>,
-) -> BTreeMap<CountedKey<'a>, u64, C> {
+) -> BTreeMap<K, u64, C> {
     let mut map = map;
     for step in 0..200u64 {
         let number = step % 100;
-        let key = CountedKey {
-            number,
-            weight: 1,
-            drops,
-        };
+        let key = K::weighed(number, 1, drops);
         assert_true(rt, map.insert(key, step).is_ok());
         assert_same(rt, drops.get(), step.saturating_sub(99));
     }
@@ -95,9 +116,9 @@ fn with_keys<'a, C: NodesMut<CountedKey<'a>, u64>>(
 }
 
 // Takes so many keys from the front, then so many from the back, and drops the others. A hundred were dropped before.
-fn take_keys<'a, C: NodesMut<CountedKey<'a>, u64> + Drop>(
+fn take_keys<'a, K: Ord + Drop + Weighed<'a>, C: NodesMut<K, u64> + Drop>(
     rt: &impl Abort,
-    map: BTreeMap<CountedKey<'a>, u64, C>,
+    map: BTreeMap<K, u64, C>,
     drops: &'a Cell<u64>,
     from_front: u64,
     from_back: u64,
@@ -119,7 +140,7 @@ fn take_keys<'a, C: NodesMut<CountedKey<'a>, u64> + Drop>(
 fn each_key_is_dropped_once(rt: HostRuntime) {
     for (from_front, from_back) in [(0, 0), (1, 0), (50, 0), (30, 30), (50, 50)] {
         let drops = Cell::new(0u64);
-        take_keys::<KeyStore<'_>>(
+        take_keys::<CountedKey<'_>, KeyStore<'_>>(
             &rt,
             BTreeMap::new(rt.alloc()),
             &drops,
@@ -130,14 +151,14 @@ fn each_key_is_dropped_once(rt: HostRuntime) {
 }
 
 // Replaces each value of a hundred, clears the map, and drops it.
-fn replace_and_clear<'a, C: ClearNodes<u64, Counted<'a>> + Drop>(
+fn replace_and_clear<'a, V: Drop + Dropping<'a>, C: ClearNodes<u64, V> + Drop>(
     rt: &impl Abort,
-    map: BTreeMap<u64, Counted<'a>, C>,
+    map: BTreeMap<u64, V, C>,
     drops: &'a Cell<u64>,
 ) {
     let mut map = map;
     for key in 0..100u64 {
-        assert_true(rt, map.insert(key, Counted { key, drops }).is_ok());
+        assert_true(rt, map.insert(key, V::dropping(key, drops)).is_ok());
         assert_same(rt, drops.get(), key.wrapping_add(1));
     }
     map.clear();
@@ -149,23 +170,22 @@ fn replace_and_clear<'a, C: ClearNodes<u64, Counted<'a>> + Drop>(
 #[test]
 fn each_replaced_value_is_dropped_once(rt: HostRuntime) {
     let drops = Cell::new(0u64);
-    let Some(map) = hundred(rt.alloc(), &drops) else {
+    let Some(map) = hundred(BTreeMap::new(rt.alloc()), &drops) else {
         panic!(rt; "no memory")
     };
-    replace_and_clear(&rt, map, &drops);
+    replace_and_clear::<Counted<'_>, ValueStore<'_>>(&rt, map, &drops);
 }
 
-// Inserts a hundred values. One that is refused comes back, and is dropped at once. Returns how many were.
-fn insert_some<'a, C: NodesMut<u64, Counted<'a>> + Drop>(
+// Inserts a hundred values into a map that is empty. One that is refused comes back, and is dropped at once. Returns how many were.
+fn insert_some<'a, V: Drop + Dropping<'a>, C: NodesMut<u64, V> + Drop>(
     rt: &impl Abort,
-    origin: C::Origin,
+    mut map: BTreeMap<u64, V, C>,
     drops: &'a Cell<u64>,
 ) -> u64 {
-    let mut map: BTreeMap<u64, Counted<'a>, C> = BTreeMap::new(origin);
     let mut refused = 0u64;
     for key in 0..100u64 {
-        if let Err(back) = map.insert(key, Counted { key, drops }) {
-            assert_same(rt, (back.key, back.value.key), (key, key));
+        if let Err(back) = map.insert(key, V::dropping(key, drops)) {
+            assert_same(rt, (back.key, back.value.key()), (key, key));
             refused = refused.wrapping_add(1);
         }
         assert_same(rt, drops.get(), refused);
@@ -183,9 +203,8 @@ fn each_refused_value_is_dropped_once(rt: HostRuntime) {
     for nth in 1..100u64 {
         let memory = Refusing::over(rt.alloc(), nth);
         let drops = Cell::new(0u64);
-        let refused = insert_some::<
-            RefusingStore<'_, SlabStore<Node<u64, Counted<'_>>, &Refusing<Global>>>,
-        >(&rt, (&memory, &memory), &drops);
+        let map = BTreeMap::new((&memory, &memory));
+        let refused = insert_some::<Counted<'_>, Refuses<'_, '_>>(&rt, map, &drops);
         if refused == 0 {
             assert_true(&rt, nth > 25);
             return;
