@@ -29,30 +29,44 @@ impl Clone for Picky {
     }
 }
 
-type Heap = SlabStore<Node<u64, Span<Picky>>>;
+// A value with a number.
+trait IsNumbered {
+    fn numbered(number: u64) -> Self;
 
-// Gives some numbers a value.
-fn insert<C: NodesMut<u64, Span<Picky>> + Drop>(
-    map: &mut RangeMap<Picky, C>,
-    start: u64,
-    end: u64,
-    number: u64,
-) -> Result<(), RangeRefused<Span<Picky>>> {
-    map.insert(start, end, Picky { number })
+    fn number(&self) -> u64;
 }
 
-// Returns the number of a value that a map lends.
-fn number(value: Option<&Picky>) -> Option<u64> {
-    match value {
-        Some(picky) => Some(picky.number),
-        None => None,
+impl IsNumbered for Picky {
+    fn numbered(number: u64) -> Picky {
+        Picky { number }
+    }
+
+    fn number(&self) -> u64 {
+        self.number
     }
 }
 
+type Heap = SlabStore<Node<u64, Span<Picky>>>;
+
+// Gives some numbers a value.
+fn insert<V: Clone + Eq + Drop + IsNumbered, C: NodesMut<u64, Span<V>>>(
+    map: &mut RangeMap<V, C>,
+    start: u64,
+    end: u64,
+    number: u64,
+) -> Result<(), RangeRefused<Span<V>>> {
+    map.insert(start, end, V::numbered(number))
+}
+
+// Returns the number of a value that a map lends.
+fn number<V: IsNumbered>(value: Option<&V>) -> Option<u64> {
+    Some(value?.number())
+}
+
 // Checks that a map has one range.
-fn check_one<C: NodesMut<u64, Span<Picky>> + Drop>(
+fn check_one<V: Clone + Eq + IsNumbered, C: NodesMut<u64, Span<V>>>(
     rt: &impl Abort,
-    map: &RangeMap<Picky, C>,
+    map: &RangeMap<V, C>,
     start: u64,
     end: u64,
     number: u64,
@@ -60,61 +74,64 @@ fn check_one<C: NodesMut<u64, Span<Picky>> + Drop>(
     assert_same(rt, map.len(), 1);
     match map.first() {
         Some((first, span)) => {
-            assert_same(
-                rt,
-                (first, span.end, span.value.number),
-                (start, end, number),
-            );
+            let found = (first, span.end, span.value.number());
+            assert_same(rt, found, (start, end, number));
         }
         None => panic!(rt; "no range"),
     }
 }
 
 // Both parts of a range that is cut keep its value.
-fn cut<C: NodesMut<u64, Span<Picky>> + Drop>(rt: &impl Abort, origin: C::Origin) {
-    let mut map: RangeMap<Picky, C> = RangeMap::new(origin);
-    assert_true(rt, insert(&mut map, 10, 20, 5).is_ok());
-    assert_true(rt, insert(&mut map, 12, 15, 7).is_ok());
+fn cut<V: Clone + Eq + Drop + IsNumbered, C: NodesMut<u64, Span<V>>>(
+    rt: &impl Abort,
+    map: &mut RangeMap<V, C>,
+) {
+    assert_true(rt, insert(map, 10, 20, 5).is_ok());
+    assert_true(rt, insert(map, 12, 15, 7).is_ok());
     assert_true(rt, map.remove(16, 18).is_ok());
     assert_same(rt, map.len(), 4);
-    assert_same(
-        rt,
-        (number(map.get(11)), number(map.get(14))),
-        (Some(5), Some(7)),
-    );
-    assert_same(
-        rt,
-        (number(map.get(15)), number(map.get(16))),
-        (Some(5), None),
-    );
+    assert_same(rt, number(map.get(11)), Some(5));
+    assert_same(rt, number(map.get(14)), Some(7));
+    assert_same(rt, number(map.get(15)), Some(5));
+    assert_same(rt, number(map.get(16)), None);
     assert_same(rt, number(map.get(19)), Some(5));
 }
 
 // No part of a range is cloned unless the numbers are inside it, at neither of its ends.
-fn trim<C: NodesMut<u64, Span<Picky>> + Drop>(rt: &impl Abort, origin: C::Origin) {
-    let mut map: RangeMap<Picky, C> = RangeMap::new(origin);
-    assert_true(rt, insert(&mut map, 10, 20, 7).is_ok());
-    assert_true(rt, insert(&mut map, 5, 12, 6).is_ok());
-    assert_true(rt, insert(&mut map, 18, 22, 8).is_ok());
-    assert_true(rt, insert(&mut map, 14, 15, 7).is_ok());
+fn trim<V: Clone + Eq + Drop + IsNumbered, C: NodesMut<u64, Span<V>>>(
+    rt: &impl Abort,
+    map: &mut RangeMap<V, C>,
+) {
+    assert_true(rt, insert(map, 10, 20, 7).is_ok());
+    assert_true(rt, insert(map, 5, 12, 6).is_ok());
+    assert_true(rt, insert(map, 18, 22, 8).is_ok());
+    assert_true(rt, insert(map, 14, 15, 7).is_ok());
     assert_true(rt, map.remove(0, 13).is_ok());
     assert_true(rt, map.remove(17, 30).is_ok());
-    check_one(rt, &map, 13, 17, 7);
+    check_one(rt, map, 13, 17, 7);
 }
 
-// An insertion into a range, and a removal from it, are refused where its value has no clone.
-fn refuse<C: NodesMut<u64, Span<Picky>> + Drop>(rt: &impl Abort, origin: C::Origin) {
-    let mut map: RangeMap<Picky, C> = RangeMap::new(origin);
-    assert_true(rt, insert(&mut map, 10, 20, 7).is_ok());
-    match insert(&mut map, 12, 15, 5) {
+// An insertion into a range is refused where its value has no clone.
+fn refuse_insertion<V: Clone + Eq + Drop + IsNumbered, C: NodesMut<u64, Span<V>>>(
+    rt: &impl Abort,
+    map: &mut RangeMap<V, C>,
+) {
+    match insert(map, 12, 15, 5) {
         Ok(()) => panic!(rt; "not refused"),
         Err(refused) => {
             let Span { end, value } = refused.value;
-            assert_same(rt, (refused.key, end, value.number), (12, 15, 5));
+            assert_same(rt, (refused.key, end, value.number()), (12, 15, 5));
             assert_same(rt, refused.cause, RangeCause::Clone);
         }
     }
-    check_one(rt, &map, 10, 20, 7);
+    check_one(rt, map, 10, 20, 7);
+}
+
+// So is a removal from it.
+fn refuse_removal<V: Clone + Eq + IsNumbered, C: NodesMut<u64, Span<V>>>(
+    rt: &impl Abort,
+    map: &mut RangeMap<V, C>,
+) {
     match map.remove(11, 19) {
         Ok(()) => panic!(rt; "not refused"),
         Err(refused) => {
@@ -122,12 +139,25 @@ fn refuse<C: NodesMut<u64, Span<Picky>> + Drop>(rt: &impl Abort, origin: C::Orig
             assert_same(rt, refused.cause, RangeCause::Clone);
         }
     }
-    check_one(rt, &map, 10, 20, 7);
+    check_one(rt, map, 10, 20, 7);
+}
+
+// An insertion into a range, and a removal from it, are refused where its value has no clone.
+fn refuse<V: Clone + Eq + Drop + IsNumbered, C: NodesMut<u64, Span<V>>>(
+    rt: &impl Abort,
+    map: &mut RangeMap<V, C>,
+) {
+    assert_true(rt, insert(map, 10, 20, 7).is_ok());
+    refuse_insertion(rt, map);
+    refuse_removal(rt, map);
 }
 
 #[test]
 fn clones_where_it_cuts(rt: HostRuntime) {
-    cut::<Heap>(&rt, rt.alloc());
-    trim::<Heap>(&rt, rt.alloc());
-    refuse::<Heap>(&rt, rt.alloc());
+    let mut map: RangeMap<Picky, Heap> = RangeMap::new(rt.alloc());
+    cut(&rt, &mut map);
+    let mut map: RangeMap<Picky, Heap> = RangeMap::new(rt.alloc());
+    trim(&rt, &mut map);
+    let mut map: RangeMap<Picky, Heap> = RangeMap::new(rt.alloc());
+    refuse(&rt, &mut map);
 }

@@ -23,34 +23,40 @@ mod texts;
 #[cfg(test)]
 mod two_maps;
 
-use crate::texts::Text;
+use crate::texts::{IsText, Text};
 use btree_node::{Node, NodesMut};
 use btree_range_map::{RangeMap, Span};
 use btree_store::SlabStore;
-use std::alloc::{AllocError, Global};
+use std::alloc::Global;
 use std::io;
 
-// Returns a text.
-fn text(alloc: Global, letters: &str) -> Result<Text, AllocError> {
-    let mut text = Text::new(alloc, 0);
-    text.push(letters)?;
-    Ok(text)
-}
-
-// Gives some numbers a text, and some of these another one.
-fn fill<C: NodesMut<u64, Span<Text>>>(
+// Gives some numbers a text.
+fn put<V: Clone + Eq + Drop + IsText, C: NodesMut<u64, Span<V>>>(
     alloc: Global,
-    map: &mut RangeMap<Text, C>,
+    map: &mut RangeMap<V, C>,
+    start: u64,
+    end: u64,
+    letters: &str,
 ) -> Result<(), io::Error> {
-    map.insert(10, 20, text(alloc, "old")?)?;
-    map.insert(12, 15, text(alloc, "new")?)?;
+    let mut text = V::empty(alloc, 0);
+    text.push(letters)?;
+    map.insert(start, end, text)?;
     Ok(())
 }
 
+// Gives some numbers a text, and some of these another one.
+fn fill<V: Clone + Eq + Drop + IsText, C: NodesMut<u64, Span<V>>>(
+    alloc: Global,
+    map: &mut RangeMap<V, C>,
+) -> Result<(), io::Error> {
+    put(alloc, map, 10, 20, "old")?;
+    put(alloc, map, 12, 15, "new")
+}
+
 // Prints each range with its text.
-fn print<C: NodesMut<u64, Span<Text>>>(
+fn print<V: Clone + Eq + IsText, C: NodesMut<u64, Span<V>>>(
     rt: &impl Print,
-    map: &RangeMap<Text, C>,
+    map: &RangeMap<V, C>,
 ) -> Result<(), io::Error> {
     for (start, span) in map {
         rt.println(format_args!("{start}..{}: {}", span.end, span.value.letters()))?;

@@ -5,6 +5,7 @@ use btree_ext::BTreeExt;
 use btree_map::BTreeMap;
 use btree_node::{ClearNodes, NodesMut};
 use btree_range_map::{RangeMap, Span};
+use std::alloc::Global;
 use std::process::Abort;
 
 const TWO: Ranges = &[(1, 4, 7), (4, 6, 8)];
@@ -49,6 +50,16 @@ fn check_taken<C: ClearNodes<u64, Span<u64>> + Drop>(
     check_pairs(rt, &map, TWO);
 }
 
+// Checks so for a map without ranges, one of all numbers, and one in which two of three touch.
+fn check_each_taken<C: ClearNodes<u64, Span<u64>, Origin = Global> + Drop>(
+    rt: &impl Abort,
+    alloc: Global,
+) {
+    check_taken::<C>(rt, alloc, alloc, &[]);
+    check_taken::<C>(rt, alloc, alloc, &[(0, u64::MAX, 7)]);
+    check_taken::<C>(rt, alloc, alloc, &[(0, 1, 7), (1, 5, 8), (7, 8, 8)]);
+}
+
 // Checks that it takes none of these, and keeps its own.
 fn check_left<C: ClearNodes<u64, Span<u64>> + Drop>(
     rt: &impl Abort,
@@ -65,28 +76,24 @@ fn check_left<C: ClearNodes<u64, Span<u64>> + Drop>(
     check_pairs(rt, &map, ranges);
 }
 
+// Checks so for ranges that are empty, that end before they start, that touch with equal values, and that meet.
+fn check_each_left<C: ClearNodes<u64, Span<u64>, Origin = Global> + Drop>(
+    rt: &impl Abort,
+    alloc: Global,
+) {
+    check_left::<C>(rt, alloc, alloc, &[(3, 3, 7)]);
+    check_left::<C>(rt, alloc, alloc, &[(4, 2, 7)]);
+    check_left::<C>(rt, alloc, alloc, &[(0, 1, 7), (2, 5, 8), (5, 8, 8)]);
+    check_left::<C>(rt, alloc, alloc, &[(0, 3, 7), (2, 5, 8)]);
+    check_left::<C>(rt, alloc, alloc, &[(0, 1, 7), (7, 7, 8)]);
+}
+
 #[test]
 fn takes_maps_of_ranges(rt: HostRuntime) {
-    check_taken::<Heap>(&rt, rt.alloc(), rt.alloc(), &[]);
-    check_taken::<Heap>(&rt, rt.alloc(), rt.alloc(), &[(0, u64::MAX, 7)]);
-    check_taken::<Heap>(
-        &rt,
-        rt.alloc(),
-        rt.alloc(),
-        &[(0, 1, 7), (1, 5, 8), (7, 8, 8)],
-    );
+    check_each_taken::<Heap>(&rt, rt.alloc());
 }
 
 #[test]
 fn takes_no_other_maps(rt: HostRuntime) {
-    check_left::<Heap>(&rt, rt.alloc(), rt.alloc(), &[(3, 3, 7)]);
-    check_left::<Heap>(&rt, rt.alloc(), rt.alloc(), &[(4, 2, 7)]);
-    check_left::<Heap>(
-        &rt,
-        rt.alloc(),
-        rt.alloc(),
-        &[(0, 1, 7), (2, 5, 8), (5, 8, 8)],
-    );
-    check_left::<Heap>(&rt, rt.alloc(), rt.alloc(), &[(0, 3, 7), (2, 5, 8)]);
-    check_left::<Heap>(&rt, rt.alloc(), rt.alloc(), &[(0, 1, 7), (7, 7, 8)]);
+    check_each_left::<Heap>(&rt, rt.alloc());
 }

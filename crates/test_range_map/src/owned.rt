@@ -1,6 +1,6 @@
 //! Maps whose values own memory.
 use crate::asserts::{assert_same, assert_true};
-use crate::texts::Text;
+use crate::texts::{IsText, Text};
 use btree_node::{Node, NodesMut};
 use btree_range_map::{RangeCause, RangeMap, Span};
 use btree_store::SlabStore;
@@ -10,25 +10,25 @@ use std::process::Abort;
 type Heap = SlabStore<Node<u64, Span<Text>>>;
 
 // Returns a text. Of the allocations of its clone one may be refused.
-fn text(rt: &impl Abort, alloc: Global, refuses: u64, letters: &str) -> Text {
-    let mut text = Text::new(alloc, refuses);
+fn text<V: IsText + Drop>(rt: &impl Abort, alloc: Global, refuses: u64, letters: &str) -> V {
+    let mut text = V::empty(alloc, refuses);
     assert_true(rt, text.push(letters).is_ok());
     text
 }
 
 // Returns a text with one more mark at its end, or as much of it as there is memory for.
-fn marked(alloc: Global, text: &Text) -> Text {
-    let mut longer = Text::new(alloc, 0);
+fn marked<V: IsText>(alloc: Global, text: &V) -> V {
+    let mut longer = V::empty(alloc, 0);
     let _ = longer.push(text.letters());
     let _ = longer.push("!");
     longer
 }
 
 // Gives some numbers a text.
-fn insert<C: NodesMut<u64, Span<Text>>>(
+fn insert<V: Clone + Eq + Drop + IsText, C: NodesMut<u64, Span<V>>>(
     rt: &impl Abort,
     alloc: Global,
-    map: &mut RangeMap<Text, C>,
+    map: &mut RangeMap<V, C>,
     start: u64,
     end: u64,
     letters: &str,
@@ -38,9 +38,9 @@ fn insert<C: NodesMut<u64, Span<Text>>>(
 }
 
 // Checks the ranges of a map, each with its text.
-fn check_texts<C: NodesMut<u64, Span<Text>>>(
+fn check_texts<V: Clone + Eq + IsText, C: NodesMut<u64, Span<V>>>(
     rt: &impl Abort,
-    map: &RangeMap<Text, C>,
+    map: &RangeMap<V, C>,
     expected: &[(u64, u64, &str)],
 ) {
     let mut ranges = map.iter();
@@ -57,9 +57,9 @@ fn check_texts<C: NodesMut<u64, Span<Text>>>(
 }
 
 // Checks the text that a map lends for a number.
-fn check_lent<C: NodesMut<u64, Span<Text>>>(
+fn check_lent<V: Clone + Eq + IsText, C: NodesMut<u64, Span<V>>>(
     rt: &impl Abort,
-    map: &RangeMap<Text, C>,
+    map: &RangeMap<V, C>,
     number: u64,
     expected: Option<&str>,
 ) {
@@ -71,106 +71,136 @@ fn check_lent<C: NodesMut<u64, Span<Text>>>(
 }
 
 // Both parts of a range that is cut have its text, each one of its own.
-fn cut<C: NodesMut<u64, Span<Text>> + Drop>(rt: &impl Abort, alloc: Global, origin: C::Origin) {
-    let mut map: RangeMap<Text, C> = RangeMap::new(origin);
-    insert(rt, alloc, &mut map, 10, 20, "old");
-    insert(rt, alloc, &mut map, 12, 15, "new");
+fn cut<V: Clone + Eq + Drop + IsText, C: NodesMut<u64, Span<V>>>(
+    rt: &impl Abort,
+    alloc: Global,
+    map: &mut RangeMap<V, C>,
+) {
+    insert(rt, alloc, map, 10, 20, "old");
+    insert(rt, alloc, map, 12, 15, "new");
     check_texts(
         rt,
-        &map,
+        map,
         &[(10, 12, "old"), (12, 15, "new"), (15, 20, "old")],
     );
     assert_true(rt, map.remove(16, 18).is_ok());
     assert_true(rt, map.remove(0, 12).is_ok());
     check_texts(
         rt,
-        &map,
+        map,
         &[(12, 15, "new"), (15, 16, "old"), (18, 20, "old")],
     );
-    check_lent(rt, &map, 14, Some("new"));
-    check_lent(rt, &map, 15, Some("old"));
-    check_lent(rt, &map, 16, None);
+    check_lent(rt, map, 14, Some("new"));
+    check_lent(rt, map, 15, Some("old"));
+    check_lent(rt, map, 16, None);
 }
 
 // Ranges that touch are one if their texts are equal, wherever these are.
-fn join<C: NodesMut<u64, Span<Text>> + Drop>(rt: &impl Abort, alloc: Global, origin: C::Origin) {
-    let mut map: RangeMap<Text, C> = RangeMap::new(origin);
-    insert(rt, alloc, &mut map, 10, 20, "one");
-    insert(rt, alloc, &mut map, 30, 40, "one");
-    insert(rt, alloc, &mut map, 20, 25, "two");
-    insert(rt, alloc, &mut map, 5, 10, "");
-    insert(rt, alloc, &mut map, 40, 50, "ones");
+fn join<V: Clone + Eq + Drop + IsText, C: NodesMut<u64, Span<V>>>(
+    rt: &impl Abort,
+    alloc: Global,
+    map: &mut RangeMap<V, C>,
+) {
+    insert(rt, alloc, map, 10, 20, "one");
+    insert(rt, alloc, map, 30, 40, "one");
+    insert(rt, alloc, map, 20, 25, "two");
+    insert(rt, alloc, map, 5, 10, "");
+    insert(rt, alloc, map, 40, 50, "ones");
     assert_same(rt, map.len(), 5);
-    insert(rt, alloc, &mut map, 18, 33, "one");
-    check_texts(rt, &map, &[(5, 10, ""), (10, 40, "one"), (40, 50, "ones")]);
-    insert(rt, alloc, &mut map, 0, 60, "two");
-    check_texts(rt, &map, &[(0, 60, "two")]);
+    insert(rt, alloc, map, 18, 33, "one");
+    check_texts(rt, map, &[(5, 10, ""), (10, 40, "one"), (40, 50, "ones")]);
+    insert(rt, alloc, map, 0, 60, "two");
+    check_texts(rt, map, &[(0, 60, "two")]);
+}
+
+// Marks the texts of some numbers.
+fn mark<V: Clone + Eq + Drop + IsText, C: NodesMut<u64, Span<V>>>(
+    rt: &impl Abort,
+    alloc: Global,
+    map: &mut RangeMap<V, C>,
+    start: u64,
+    end: u64,
+) {
+    let outcome = map.update(start, end, &mut |text: &V| marked(alloc, text));
+    assert_true(rt, outcome.is_ok());
 }
 
 // An update puts texts in place of those that it reads.
-fn update<C: NodesMut<u64, Span<Text>> + Drop>(rt: &impl Abort, alloc: Global, origin: C::Origin) {
-    let mut map: RangeMap<Text, C> = RangeMap::new(origin);
-    insert(rt, alloc, &mut map, 3, 9, "a");
-    insert(rt, alloc, &mut map, 9, 12, "a!");
-    let outcome = map.update(5, 10, &mut |text: &Text| marked(alloc, text));
-    assert_true(rt, outcome.is_ok());
+fn update<V: Clone + Eq + Drop + IsText, C: NodesMut<u64, Span<V>>>(
+    rt: &impl Abort,
+    alloc: Global,
+    map: &mut RangeMap<V, C>,
+) {
+    insert(rt, alloc, map, 3, 9, "a");
+    insert(rt, alloc, map, 9, 12, "a!");
+    mark(rt, alloc, map, 5, 10);
     check_texts(
         rt,
-        &map,
+        map,
         &[(3, 5, "a"), (5, 9, "a!"), (9, 10, "a!!"), (10, 12, "a!")],
     );
-    let outcome = map.update(0, 5, &mut |text: &Text| marked(alloc, text));
-    assert_true(rt, outcome.is_ok());
-    check_texts(rt, &map, &[(3, 9, "a!"), (9, 10, "a!!"), (10, 12, "a!")]);
+    mark(rt, alloc, map, 0, 5);
+    check_texts(rt, map, &[(3, 9, "a!"), (9, 10, "a!!"), (10, 12, "a!")]);
 }
 
 // Texts in several nodes, of which one takes the place of all.
-fn fill<C: NodesMut<u64, Span<Text>> + Drop>(rt: &impl Abort, alloc: Global, origin: C::Origin) {
-    let mut map: RangeMap<Text, C> = RangeMap::new(origin);
+fn fill<V: Clone + Eq + Drop + IsText, C: NodesMut<u64, Span<V>>>(
+    rt: &impl Abort,
+    alloc: Global,
+    map: &mut RangeMap<V, C>,
+) {
     for number in 0..40u64 {
         let start = 10 * number;
-        insert(rt, alloc, &mut map, start, start + 5, "old");
+        insert(rt, alloc, map, start, start + 5, "old");
     }
     assert_same(rt, map.len(), 40);
-    check_lent(rt, &map, 394, Some("old"));
-    insert(rt, alloc, &mut map, 2, 393, "new");
+    check_lent(rt, map, 394, Some("old"));
+    insert(rt, alloc, map, 2, 393, "new");
     check_texts(
         rt,
-        &map,
+        map,
         &[(0, 2, "old"), (2, 393, "new"), (393, 395, "old")],
     );
 }
 
-#[test]
-fn holds_texts(rt: HostRuntime) {
-    let alloc = rt.alloc();
-    cut::<Heap>(&rt, alloc, alloc);
-    join::<Heap>(&rt, alloc, alloc);
-    update::<Heap>(&rt, alloc, alloc);
-    fill::<Heap>(&rt, alloc, alloc);
-}
-
 // Where the clone of a text is refused its memory, an insertion into its range is refused, and so is a removal from it. Calls that cut no range
 // in two clone no text, and are granted.
-fn refuse<C: NodesMut<u64, Span<Text>> + Drop>(rt: &impl Abort, alloc: Global, origin: C::Origin) {
-    let mut map: RangeMap<Text, C> = RangeMap::new(origin);
+fn refuse<V: Clone + Eq + Drop + IsText, C: NodesMut<u64, Span<V>>>(
+    rt: &impl Abort,
+    alloc: Global,
+    map: &mut RangeMap<V, C>,
+) {
     let old = text(rt, alloc, 1, "old");
     assert_true(rt, map.insert(10, 20, old).is_ok());
     let new = text(rt, alloc, 0, "new");
     let Err(refused) = map.insert(12, 15, new) else {
         panic!(rt; "not refused")
     };
-    check_texts(rt, &map, &[(10, 20, "old")]);
+    check_texts(rt, map, &[(10, 20, "old")]);
     assert_same(rt, (refused.cause, refused.key), (RangeCause::Clone, 12));
     let Span { end, value } = refused.value;
     assert_same(rt, (end, value.letters()), (15, "new"));
     assert_true(rt, map.remove(11, 19).is_err());
     assert_true(rt, map.insert(5, 12, value).is_ok());
     assert_true(rt, map.remove(18, 30).is_ok());
-    check_texts(rt, &map, &[(5, 12, "new"), (12, 18, "old")]);
+    check_texts(rt, map, &[(5, 12, "new"), (12, 18, "old")]);
+}
+
+// Returns an empty map.
+fn no_texts(alloc: Global) -> RangeMap<Text, Heap> {
+    RangeMap::new(alloc)
+}
+
+#[test]
+fn holds_texts(rt: HostRuntime) {
+    let alloc = rt.alloc();
+    cut(&rt, alloc, &mut no_texts(alloc));
+    join(&rt, alloc, &mut no_texts(alloc));
+    update(&rt, alloc, &mut no_texts(alloc));
+    fill(&rt, alloc, &mut no_texts(alloc));
 }
 
 #[test]
 fn clone_of_a_text_is_refused(rt: HostRuntime) {
-    refuse::<Heap>(&rt, rt.alloc(), rt.alloc());
+    refuse(&rt, rt.alloc(), &mut no_texts(rt.alloc()));
 }

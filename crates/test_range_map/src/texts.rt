@@ -52,9 +52,20 @@ impl Eq for Text {
     ghost laws = { nat_list_eq_equiv };
 }
 
-impl Text {
+/// A value that is a text.
+pub(crate) trait IsText {
     /// Returns a text without letters. Of the allocations of each clone the one with the number `refuses` is refused, and for 0 none.
-    pub(crate) fn new(alloc: Global, refuses: u64) -> Text {
+    fn empty(alloc: Global, refuses: u64) -> Self;
+
+    /// Adds letters at its end.
+    fn push(&mut self, letters: &str) -> Result<(), AllocError>;
+
+    /// Returns its letters.
+    fn letters(&self) -> &str;
+}
+
+impl IsText for Text {
+    fn empty(alloc: Global, refuses: u64) -> Text {
         Text {
             text: String::new(Refusing::over(alloc, 0)),
             alloc,
@@ -62,13 +73,11 @@ impl Text {
         }
     }
 
-    /// Adds letters at its end.
-    pub(crate) fn push(&mut self, letters: &str) -> Result<(), AllocError> {
+    fn push(&mut self, letters: &str) -> Result<(), AllocError> {
         self.text.push_str(letters)
     }
 
-    /// Returns its letters.
-    pub(crate) fn letters(&self) -> &str {
+    fn letters(&self) -> &str {
         self.text.as_str()
     }
 }

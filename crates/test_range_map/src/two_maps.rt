@@ -1,5 +1,5 @@
 //! Maps that are compared, and clones.
-use crate::asserts::assert_true;
+use crate::asserts::{assert_same, assert_true};
 use crate::checks::{Call, Heap, OneNode, Outcome, Ranges, call, check_ranges};
 use btree_node::{CloneNodes, NodesMut};
 use btree_range_map::{RangeCause, RangeMap, Span};
@@ -16,27 +16,38 @@ fn do_all<C: NodesMut<u64, Span<u64>> + Drop>(
     }
 }
 
+// Checks whether two maps give the same numbers the same values, asked of either.
+fn check_same<C: NodesMut<u64, Span<u64>>, D: NodesMut<u64, Span<u64>>>(
+    rt: &impl Abort,
+    left: &RangeMap<u64, C>,
+    right: &RangeMap<u64, D>,
+    are: bool,
+) {
+    let found = (left.same_values(right), right.same_values(left));
+    assert_same(rt, found, (are, are));
+}
+
 // Two maps that give the same numbers the same values, which came in different ways, and other ones.
 fn compare<C: NodesMut<u64, Span<u64>> + Drop, D: NodesMut<u64, Span<u64>> + Drop>(
     rt: &impl Abort,
     mut map: RangeMap<u64, C>,
     mut other: RangeMap<u64, D>,
 ) {
-    assert_true(rt, map.same_values(&other));
+    check_same(rt, &map, &other, true);
     do_all(rt, &mut map, &[(1, 9, Some(1)), (4, 5, Some(2))]);
-    assert_true(rt, !map.same_values(&other) && !other.same_values(&map));
+    check_same(rt, &map, &other, false);
     do_all(
         rt,
         &mut other,
         &[(5, 9, Some(1)), (1, 4, Some(1)), (4, 5, Some(2))],
     );
-    assert_true(rt, map.same_values(&other) && other.same_values(&map));
+    check_same(rt, &map, &other, true);
     do_all(rt, &mut other, &[(4, 5, Some(3))]);
-    assert_true(rt, !map.same_values(&other) && !other.same_values(&map));
+    check_same(rt, &map, &other, false);
     do_all(rt, &mut other, &[(4, 5, None)]);
-    assert_true(rt, !map.same_values(&other));
+    check_same(rt, &map, &other, false);
     do_all(rt, &mut map, &[(4, 5, None)]);
-    assert_true(rt, map.same_values(&other));
+    check_same(rt, &map, &other, true);
 }
 
 const TWO: Ranges = &[(1, 5, 1), (5, 9, 2)];

@@ -32,3 +32,11 @@ pub(crate) fn assert_same_in<T: PartialEq + Debug + Drop, N: Debug + Drop>(
 ) {
     assert_eq!(rt; left, right, "{case:?}");
 }
+
+/// Returns what a call gives. Stops the test where that is an error, with a message that has it.
+pub(crate) fn given<T, E: Debug + Drop>(rt: &impl Abort, outcome: Result<T, E>) -> T {
+    match outcome {
+        Ok(value) => value,
+        Err(error) => panic!(rt; "{error:?}"),
+    }
+}

@@ -1,12 +1,11 @@
 //! Bytes that no one saved.
-use crate::asserts::{assert_same, assert_true};
+use crate::asserts::{assert_same, assert_true, given};
 use crate::maps::{Slots, saved_squares};
-use crate::verdicts::{Tally, Verdict, tried_in};
-use crate::words::{MAGIC, add_sum, bytes_of_words};
+use crate::verdicts::{Tally, Verdict, tried};
+use crate::words::{MAGIC, add_sum, bytes_of_words, put_word};
 use btree_image::BadImage;
-use std::alloc::{AllocError, Global};
+use std::alloc::Global;
 use std::process::Abort;
-use std::test::Fail;
 
 /// A step of a sequence of numbers without a pattern.
 pub(crate) fn next(state: u64) -> u64 {
@@ -16,114 +15,93 @@ pub(crate) fn next(state: u64) -> u64 {
 }
 
 // Returns the bytes of a map with many nodes.
-fn good_bytes(alloc: Global) -> Result<Vec<u8>, Fail> {
-    saved_squares::<Slots>(alloc, alloc, 44)
+fn good_bytes(rt: &impl Abort, alloc: Global) -> Vec<u8> {
+    saved_squares::<Slots>(rt, alloc, alloc, 44)
 }
 
 // Writes the check sum of all bytes but the last eight over these.
-fn sum_anew(bytes: &mut Vec<u8>) -> Result<(), AllocError> {
+fn sum_anew(rt: &impl Abort, bytes: &mut Vec<u8>) {
     let len = bytes.len().saturating_sub(8);
     bytes.truncate(len);
-    add_sum(bytes)
-}
-
-// Opens bytes in slots.
-fn tried(rt: &impl Abort, alloc: Global, bytes: &[u8]) -> Result<Verdict, Fail> {
-    tried_in::<Slots>(rt, alloc, alloc, bytes)
+    add_sum(rt, bytes);
 }
 
 // Changes a byte. With the old check sum the bytes are no image, and with the right one they may be.
-fn change(
-    rt: &impl Abort,
-    alloc: Global,
-    bytes: &[u8],
-    (at, mask): (usize, u8),
-) -> Result<Verdict, Fail> {
-    let mut other = bytes.to_vec(alloc)?;
+fn change(rt: &impl Abort, alloc: Global, bytes: &[u8], (at, mask): (usize, u8)) -> Verdict {
+    let mut other = given(rt, bytes.to_vec(alloc));
     if let Some(byte) = other.get_mut(at) {
         *byte ^= mask;
     }
-    match tried(rt, alloc, &other)? {
+    match tried(rt, alloc, &other) {
         Verdict::Image(_, _) => {}
         _ => panic!(rt; "another byte is not seen"),
     }
-    sum_anew(&mut other)?;
+    sum_anew(rt, &mut other);
     tried(rt, alloc, &other)
 }
 
 // Changes a byte in three ways.
-fn change_thrice(
-    rt: &impl Abort,
-    alloc: Global,
-    bytes: &[u8],
-    at: usize,
-    tally: &mut Tally,
-) -> Result<(), Fail> {
+fn change_thrice(rt: &impl Abort, alloc: Global, bytes: &[u8], at: usize, tally: &mut Tally) {
     for mask in [1, 128, 255] {
-        tally.count(rt, change(rt, alloc, bytes, (at, mask))?);
+        tally.count(rt, change(rt, alloc, bytes, (at, mask)));
     }
-    Ok(())
 }
 
 // Each byte is changed in three ways.
 #[test]
-fn each_byte_is_changed(rt: HostRuntime) -> Result<(), Fail> {
-    let bytes = good_bytes(rt.alloc())?;
+fn each_byte_is_changed(rt: HostRuntime) {
+    let bytes = good_bytes(&rt, rt.alloc());
     let mut tally = Tally::NONE;
     for at in 0..bytes.len() {
-        change_thrice(&rt, rt.alloc(), &bytes, at, &mut tally)?;
+        change_thrice(&rt, rt.alloc(), &bytes, at, &mut tally);
     }
     assert_true(&rt, tally.opened > 0);
     assert_true(&rt, tally.images > 0);
     assert_true(&rt, tally.trees > 0);
-    Ok(())
 }
 
 // Checks that bytes are no image.
-fn check_no_image(rt: &impl Abort, alloc: Global, bytes: &[u8]) -> Result<(), Fail> {
-    match tried(rt, alloc, bytes)? {
+fn check_no_image(rt: &impl Abort, alloc: Global, bytes: &[u8]) {
+    match tried(rt, alloc, bytes) {
         Verdict::Image(_, at) => assert_true(rt, at <= bytes.len()),
         _ => panic!(rt; "an image"),
     }
-    Ok(())
 }
 
 // Returns bytes with one of them doubled.
-fn doubled(alloc: Global, front: &[u8], rest: &[u8]) -> Result<Vec<u8>, AllocError> {
-    let mut bytes = front.to_vec(alloc)?;
+fn doubled(rt: &impl Abort, alloc: Global, front: &[u8], rest: &[u8]) -> Vec<u8> {
+    let mut bytes = given(rt, front.to_vec(alloc));
     if let Some(byte) = rest.first() {
-        bytes.push(*byte)?;
+        given(rt, bytes.push(*byte));
     }
-    bytes.extend_from_slice(rest)?;
-    Ok(bytes)
+    given(rt, bytes.extend_from_slice(rest));
+    bytes
 }
 
 // Each front is no image, and neither is a list with a byte doubled, nor a file twice.
 #[test]
-fn fronts_and_doubled_bytes(rt: HostRuntime) -> Result<(), Fail> {
-    let bytes = good_bytes(rt.alloc())?;
+fn fronts_and_doubled_bytes(rt: HostRuntime) {
+    let bytes = good_bytes(&rt, rt.alloc());
     for at in 0..bytes.len() {
         let (front, rest) = bytes.split_at(at);
-        check_no_image(&rt, rt.alloc(), front)?;
-        check_no_image(&rt, rt.alloc(), &doubled(rt.alloc(), front, rest)?)?;
+        check_no_image(&rt, rt.alloc(), front);
+        check_no_image(&rt, rt.alloc(), &doubled(&rt, rt.alloc(), front, rest));
     }
-    Ok(())
 }
 
 #[test]
-fn a_file_twice(rt: HostRuntime) -> Result<(), Fail> {
-    let mut twice = good_bytes(rt.alloc())?;
+fn a_file_twice(rt: HostRuntime) {
+    let mut twice = good_bytes(&rt, rt.alloc());
     let len = twice.len();
-    let more = good_bytes(rt.alloc())?;
-    twice.extend_from_slice(&more)?;
-    let found = tried(&rt, rt.alloc(), &twice)?;
+    let more = good_bytes(&rt, rt.alloc());
+    assert_true(&rt, twice.extend_from_slice(&more).is_ok());
+    let found = tried(&rt, rt.alloc(), &twice);
     assert_same(&rt, found, Verdict::Image(BadImage::Trailing, len));
-    Ok(())
 }
 
 // Returns a file of words without a pattern, most of them small, after a head that is right.
-fn random_file(alloc: Global, list: u64) -> Result<Vec<u8>, AllocError> {
-    let mut bytes = bytes_of_words(alloc, &[MAGIC, 1])?;
+fn random_file(rt: &impl Abort, alloc: Global, list: u64) -> Vec<u8> {
+    let mut bytes = bytes_of_words(rt, alloc, &[MAGIC, 1]);
     let mut state = list;
     for _ in 0..list % 40 {
         state = next(state);
@@ -131,20 +109,19 @@ fn random_file(alloc: Global, list: u64) -> Result<Vec<u8>, AllocError> {
             7 => u64::MAX,
             small => small % 4,
         };
-        bytes.extend_from_slice(&word.to_be_bytes())?;
+        put_word(rt, &mut bytes, word);
     }
-    add_sum(&mut bytes)?;
-    Ok(bytes)
+    add_sum(rt, &mut bytes);
+    bytes
 }
 
 #[test]
-fn random_words(rt: HostRuntime) -> Result<(), Fail> {
+fn random_words(rt: HostRuntime) {
     let mut tally = Tally::NONE;
     for list in 0..2000 {
-        let bytes = random_file(rt.alloc(), list)?;
-        tally.count(&rt, tried(&rt, rt.alloc(), &bytes)?);
+        let bytes = random_file(&rt, rt.alloc(), list);
+        tally.count(&rt, tried(&rt, rt.alloc(), &bytes));
     }
     assert_true(&rt, tally.images > 0);
     assert_true(&rt, tally.trees > 0);
-    Ok(())
 }

@@ -2,7 +2,7 @@
 ghost use Rattle.std.specs.Mem.{FitsInMemory};
 ghost use Rattle.btree_node.specs.contracts.node.Node.{the_row as node_row};
 
-use crate::asserts::{assert_same, assert_true};
+use crate::asserts::{assert_same, assert_true, given};
 use crate::maps::check_same;
 use btree_map::BTreeMap;
 use btree_more_stores::{Fill, SlotStore};
@@ -12,7 +12,6 @@ use btree_spelled::Spelled;
 use std::alloc::Global;
 use std::fmt::Debug;
 use std::process::Abort;
-use std::test::Fail;
 
 // The nodes of a map, in slots.
 type SlotsOf<K, V> = SlotStore<Node<K, V>>;
@@ -23,45 +22,44 @@ fn check_kind<
     K: Spelled + Ord + Copy + Debug,
     V: Spelled + PartialEq + Copy + Debug,
     C: Fill<Node<K, V>, Origin = Global> + Drop,
->(rt: &impl Abort, alloc: Global, pairs: &[(K, V)], len: usize) -> Result<(), Fail>
+>(rt: &impl Abort, alloc: Global, pairs: &[(K, V)], len: usize)
     requires { FitsInMemory (node_row K.row V.row) }
 {
     let mut map: BTreeMap<K, V, C> = BTreeMap::new(alloc);
     for (key, value) in pairs.iter().copied() {
         assert_true(rt, map.insert(key, value).is_ok());
     }
-    let bytes = bytes_of_map(alloc, &map)?;
+    let bytes = given(rt, bytes_of_map(alloc, &map));
     assert_same(rt, bytes.len(), len);
-    let again: BTreeMap<K, V, C> = map_of_bytes(alloc, &bytes)?;
+    let again: BTreeMap<K, V, C> = given(rt, map_of_bytes(alloc, &bytes));
     check_same(rt, &map, &again);
-    Ok(())
 }
 
 // A set is a map to nothing.
 #[test]
-fn pairs_to_nothing(rt: HostRuntime) -> Result<(), Fail> {
+fn pairs_to_nothing(rt: HostRuntime) {
     let pairs = [(('z', -1), ()), (('a', i32::MIN), ()), (('z', -2), ())];
-    check_kind::<_, _, SlotsOf<(char, i32), ()>>(&rt, rt.alloc(), &pairs, 80 + 3 * 8)
+    check_kind::<_, _, SlotsOf<(char, i32), ()>>(&rt, rt.alloc(), &pairs, 80 + 3 * 8);
 }
 
 #[test]
-fn bytes_to_arrays(rt: HostRuntime) -> Result<(), Fail> {
+fn bytes_to_arrays(rt: HostRuntime) {
     let pairs = [(3u8, [1u8, 2, 3]), (0, [0, 0, 255]), (255, [9, 9, 9])];
-    check_kind::<_, _, SlotsOf<u8, [u8; 3]>>(&rt, rt.alloc(), &pairs, 80 + 3 * 4)
+    check_kind::<_, _, SlotsOf<u8, [u8; 3]>>(&rt, rt.alloc(), &pairs, 80 + 3 * 4);
 }
 
 #[test]
-fn signed_numbers_to_long_ones(rt: HostRuntime) -> Result<(), Fail> {
+fn signed_numbers_to_long_ones(rt: HostRuntime) {
     let pairs = [(-1i64, u128::MAX), (i64::MIN, 0), (5, 1 << 100)];
-    check_kind::<_, _, SlotsOf<i64, u128>>(&rt, rt.alloc(), &pairs, 80 + 3 * 24)
+    check_kind::<_, _, SlotsOf<i64, u128>>(&rt, rt.alloc(), &pairs, 80 + 3 * 24);
 }
 
 #[test]
-fn booleans_to_characters(rt: HostRuntime) -> Result<(), Fail> {
+fn booleans_to_characters(rt: HostRuntime) {
     let pairs = [
         ((true, 7usize), 'x'),
         ((false, 7), '\u{10ffff}'),
         ((true, 6), 'y'),
     ];
-    check_kind::<_, _, SlotsOf<(bool, usize), char>>(&rt, rt.alloc(), &pairs, 80 + 3 * 13)
+    check_kind::<_, _, SlotsOf<(bool, usize), char>>(&rt, rt.alloc(), &pairs, 80 + 3 * 13);
 }

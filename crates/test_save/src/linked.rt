@@ -1,17 +1,10 @@
 //! Images whose nodes are linked in any way: with cycles, with children of two nodes, and with children that are not there.
 use crate::asserts::assert_same;
 use crate::hostile::next;
-use crate::maps::Slots;
-use crate::verdicts::{Tally, Verdict, tried_in};
-use crate::words::{MAGIC, NONE, add_sum, bytes_of_words};
-use std::alloc::{AllocError, Global};
+use crate::verdicts::{Tally, Verdict, tried};
+use crate::words::{MAGIC, NONE, add_sum, bytes_of_words, put_word};
+use std::alloc::Global;
 use std::process::Abort;
-use std::test::Fail;
-
-// Appends a word.
-fn put(bytes: &mut Vec<u8>, word: u64) -> Result<(), AllocError> {
-    bytes.extend_from_slice(&word.to_be_bytes())
-}
 
 // The number of one of five nodes, of which the last is not there, or none.
 fn drawn_id(state: u64) -> u64 {
@@ -22,68 +15,72 @@ fn drawn_id(state: u64) -> u64 {
 }
 
 // Appends a leaf with three items.
-fn put_leaf(bytes: &mut Vec<u8>, parent: u64, least: u64) -> Result<(), AllocError> {
+fn put_leaf(rt: &impl Abort, bytes: &mut Vec<u8>, parent: u64, least: u64) {
     let (second, third) = (least.wrapping_add(1), least.wrapping_add(2));
     for word in [1, parent, 3, least, 0, second, 0, third, 0] {
-        put(bytes, word)?;
+        put_word(rt, bytes, word);
     }
-    Ok(())
 }
 
 // Appends an internal node with one item.
 fn put_internal(
+    rt: &impl Abort,
     bytes: &mut Vec<u8>,
     parent: u64,
     (first, key, second): (u64, u64, u64),
-) -> Result<(), AllocError> {
+) {
     for word in [2, parent, 1, first, key, 0, second] {
-        put(bytes, word)?;
+        put_word(rt, bytes, word);
     }
-    Ok(())
 }
 
 // Returns the image of four nodes, of which the first two are internal. The list gives root, parents and children.
-fn linked(alloc: Global, list: u64) -> Result<Vec<u8>, AllocError> {
+fn linked(rt: &impl Abort, alloc: Global, list: u64) -> Vec<u8> {
     let a = next(list);
     let b = next(a);
     let c = next(b);
     let d = next(c);
     let e = next(d);
     let f = next(e);
-    let mut bytes = bytes_of_words(alloc, &[MAGIC, 1, drawn_id(a), 8, NONE, 4])?;
-    put_internal(&mut bytes, drawn_id(b), (drawn_id(c), 3, drawn_id(d)))?;
-    put_internal(&mut bytes, drawn_id(e), (drawn_id(f), 7, drawn_id(next(f))))?;
-    put_leaf(&mut bytes, drawn_id(a >> 8), 0)?;
-    put_leaf(&mut bytes, drawn_id(b >> 8), 4)?;
-    add_sum(&mut bytes)?;
-    Ok(bytes)
+    let mut bytes = bytes_of_words(rt, alloc, &[MAGIC, 1, drawn_id(a), 8, NONE, 4]);
+    put_internal(rt, &mut bytes, drawn_id(b), (drawn_id(c), 3, drawn_id(d)));
+    put_internal(
+        rt,
+        &mut bytes,
+        drawn_id(e),
+        (drawn_id(f), 7, drawn_id(next(f))),
+    );
+    put_leaf(rt, &mut bytes, drawn_id(a >> 8), 0);
+    put_leaf(rt, &mut bytes, drawn_id(b >> 8), 4);
+    add_sum(rt, &mut bytes);
+    bytes
 }
 
 // Each of them is an image, and no tree: four children are named, of three nodes at most.
 #[test]
-fn nodes_are_linked_in_any_way(rt: HostRuntime) -> Result<(), Fail> {
+fn nodes_are_linked_in_any_way(rt: HostRuntime) {
     let mut tally = Tally::NONE;
     for list in 0..2000 {
-        let bytes = linked(rt.alloc(), list)?;
-        tally.count(&rt, tried_in::<Slots>(&rt, rt.alloc(), rt.alloc(), &bytes)?);
+        let bytes = linked(&rt, rt.alloc(), list);
+        tally.count(&rt, tried(&rt, rt.alloc(), &bytes));
     }
     assert_same(&rt, (tally.opened, tally.images, tally.trees), (0, 0, 2000));
-    Ok(())
 }
 
 // Returns the image of an internal node and two leaves, with this root, these parents and these children.
 fn family(
+    rt: &impl Abort,
     alloc: Global,
     root: u64,
     (top, first, second): (u64, u64, u64),
     (left, right): (u64, u64),
-) -> Result<Vec<u8>, AllocError> {
-    let mut bytes = bytes_of_words(alloc, &[MAGIC, 1, root, 7, NONE, 3])?;
-    put_internal(&mut bytes, top, (left, 3, right))?;
-    put_leaf(&mut bytes, first, 0)?;
-    put_leaf(&mut bytes, second, 4)?;
-    add_sum(&mut bytes)?;
-    Ok(bytes)
+) -> Vec<u8> {
+    let mut bytes = bytes_of_words(rt, alloc, &[MAGIC, 1, root, 7, NONE, 3]);
+    put_internal(rt, &mut bytes, top, (left, 3, right));
+    put_leaf(rt, &mut bytes, first, 0);
+    put_leaf(rt, &mut bytes, second, 4);
+    add_sum(rt, &mut bytes);
+    bytes
 }
 
 // The number of one of four nodes, of which the last is not there, or none: a digit of `links`.
@@ -95,25 +92,23 @@ fn id_in(links: u64, place: u64) -> u64 {
 }
 
 // Tries each pair of children, each of them under each parent.
-fn try_children(rt: &impl Abort, alloc: Global, tally: &mut Tally, root: u64) -> Result<(), Fail> {
+fn try_children(rt: &impl Abort, alloc: Global, tally: &mut Tally, root: u64) {
     for links in 0..625u64 {
         let parents = (NONE, id_in(links, 1), id_in(links, 5));
         let children = (id_in(links, 25), id_in(links, 125));
-        let bytes = family(alloc, root, parents, children)?;
-        let found = tried_in::<Slots>(rt, alloc, alloc, &bytes)?;
+        let bytes = family(rt, alloc, root, parents, children);
+        let found = tried(rt, alloc, &bytes);
         let is_right = (root, parents, children) == (0, (NONE, 0, 0), (1, 2));
         assert_same(rt, found == Verdict::Opened, is_right);
         tally.count(rt, found);
     }
-    Ok(())
 }
 
 #[test]
-fn one_of_all_families_is_a_tree(rt: HostRuntime) -> Result<(), Fail> {
+fn one_of_all_families_is_a_tree(rt: HostRuntime) {
     let mut tally = Tally::NONE;
     for root in [0, 1, 2, 3, NONE] {
-        try_children(&rt, rt.alloc(), &mut tally, root)?;
+        try_children(&rt, rt.alloc(), &mut tally, root);
     }
     assert_same(&rt, (tally.opened, tally.images, tally.trees), (1, 0, 3124));
-    Ok(())
 }

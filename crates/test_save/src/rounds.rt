@@ -1,5 +1,5 @@
 //! Maps that are saved and opened.
-use crate::asserts::{assert_same, assert_true};
+use crate::asserts::{assert_same, assert_true, given};
 use crate::maps::{Slots, check_squares, squares};
 use btree_ext::{BTreeExt, BTreeExtMut};
 use btree_item::Address;
@@ -10,7 +10,6 @@ use btree_save::{bytes_of_map, map_of_bytes, open, save};
 use std::alloc::Global;
 use std::io::Cursor;
 use std::process::Abort;
-use std::test::Fail;
 
 // Checks that two maps have the same nodes at the top, and each of these keys at the same address.
 fn check_addresses<C: NodesMut<u64, u64>>(
@@ -32,23 +31,21 @@ fn check_round<C: Fill<Node<u64, u64>, Origin = Global> + Drop>(
     rt: &impl Abort,
     alloc: Global,
     count: u64,
-) -> Result<(), Fail> {
-    let map = squares::<C>(alloc, count)?;
-    let bytes = bytes_of_map(alloc, &map)?;
-    let again: BTreeMap<u64, u64, C> = map_of_bytes(alloc, &bytes)?;
+) {
+    let map = squares::<C>(rt, alloc, count);
+    let bytes = given(rt, bytes_of_map(alloc, &map));
+    let again: BTreeMap<u64, u64, C> = given(rt, map_of_bytes(alloc, &bytes));
     check_squares(rt, &again, count);
     check_addresses(rt, &map, &again, count);
-    let twice = bytes_of_map(alloc, &again)?;
+    let twice = given(rt, bytes_of_map(alloc, &again));
     assert_same(rt, twice.as_slice(), bytes.as_slice());
-    Ok(())
 }
 
 #[test]
-fn opens_what_was_saved(rt: HostRuntime) -> Result<(), Fail> {
+fn opens_what_was_saved(rt: HostRuntime) {
     for count in [0, 1, 9, 44, 300] {
-        check_round::<Slots>(&rt, rt.alloc(), count)?;
+        check_round::<Slots>(&rt, rt.alloc(), count);
     }
-    Ok(())
 }
 
 // A map goes on after it was opened: at an address that was kept, and with insertions.
@@ -56,35 +53,31 @@ fn go_on<C: NodesMut<u64, u64> + Drop>(
     rt: &impl Abort,
     mut map: BTreeMap<u64, u64, C>,
     at: Address,
-) -> Result<(), Fail> {
+) {
     assert_true(rt, map.is_valid(at));
     match map.item(at) {
         Some(item) => assert_same(rt, (*item.key(), *item.value()), (7, 49)),
         None => panic!(rt; "no pair there"),
     }
     for key in 0..500u64 {
-        map.insert(key, key)?;
+        assert_true(rt, map.insert(key, key).is_ok());
     }
     assert_same(rt, map.len(), 500);
     assert_true(rt, map.validate().is_ok());
-    Ok(())
 }
 
 // Saves a map to a writer and opens it from a reader.
-fn save_and_go_on<C: Fill<Node<u64, u64>, Origin = Global> + Drop>(
-    rt: &impl Abort,
-    alloc: Global,
-) -> Result<(), Fail> {
-    let map = squares::<C>(alloc, 44)?;
-    let at = map.address_of(&7).ok().ok_or("7 is there")?;
+fn save_and_go_on<C: Fill<Node<u64, u64>, Origin = Global> + Drop>(rt: &impl Abort, alloc: Global) {
+    let map = squares::<C>(rt, alloc, 44);
+    let at = given(rt, map.address_of(&7));
     let mut file = Vec::new(alloc);
-    save(alloc, &map, &mut file)?;
+    given(rt, save(alloc, &map, &mut file));
     let mut input = Cursor::new(file.as_slice());
-    let again: BTreeMap<u64, u64, C> = open(alloc, alloc, &mut input)?;
-    go_on(rt, again, at)
+    let again: BTreeMap<u64, u64, C> = given(rt, open(alloc, alloc, &mut input));
+    go_on(rt, again, at);
 }
 
 #[test]
-fn goes_on_at_a_kept_address(rt: HostRuntime) -> Result<(), Fail> {
-    save_and_go_on::<Slots>(&rt, rt.alloc())
+fn goes_on_at_a_kept_address(rt: HostRuntime) {
+    save_and_go_on::<Slots>(&rt, rt.alloc());
 }

@@ -1,8 +1,8 @@
 //! Files whose bytes and faults are known by hand.
-use crate::asserts::{assert_same, assert_same_in};
+use crate::asserts::{assert_same, assert_same_in, assert_true, given};
 use crate::maps::Slots;
-use crate::verdicts::{Verdict, tried_in};
-use crate::words::{MAGIC, NONE, bytes_of_words, file_of};
+use crate::verdicts::{Verdict, tried};
+use crate::words::{MAGIC, NONE, bytes_of_words, file_of, put_word};
 use btree_image::BadImage;
 use btree_item::Fault;
 use btree_map::BTreeMap;
@@ -10,7 +10,6 @@ use btree_node::NodesMut;
 use btree_save::bytes_of_map;
 use std::alloc::Global;
 use std::process::Abort;
-use std::test::Fail;
 
 // The file {7: 49}: root 0, length 1, no limit, one place, a leaf without a parent, one item.
 const ONE_PAIR: [u64; 11] = [MAGIC, 1, 0, 1, NONE, 1, 1, NONE, 1, 7, 49];
@@ -20,41 +19,38 @@ const SUM_OF_ONE_PAIR: u64 = 0x673e_7b44_6f75_dff4;
 
 const SUM_OF_NOTHING: u64 = 0xc781_345f_71d7_04b0;
 
-// Checks the bytes of a map of no pair and of one.
-fn check_drawn<C: NodesMut<u64, u64> + Drop>(
+// Checks that the bytes of a map are these words and this check sum.
+fn check_saved<C: NodesMut<u64, u64>>(
     rt: &impl Abort,
     alloc: Global,
-    origin: C::Origin,
-) -> Result<(), Fail> {
+    map: &BTreeMap<u64, u64, C>,
+    words: &[u64],
+    sum: u64,
+) {
+    let bytes = given(rt, bytes_of_map(alloc, map));
+    let mut drawn = bytes_of_words(rt, alloc, words);
+    put_word(rt, &mut drawn, sum);
+    assert_same(rt, bytes.as_slice(), drawn.as_slice());
+}
+
+// Checks the bytes of a map of no pair and of one.
+fn check_drawn<C: NodesMut<u64, u64> + Drop>(rt: &impl Abort, alloc: Global, origin: C::Origin) {
     let mut map: BTreeMap<u64, u64, C> = BTreeMap::new(origin);
-    let bytes = bytes_of_map(alloc, &map)?;
-    let mut drawn = bytes_of_words(alloc, &[MAGIC, 1, NONE, 0, NONE, 0])?;
-    drawn.extend_from_slice(&SUM_OF_NOTHING.to_be_bytes())?;
-    assert_same(rt, bytes.as_slice(), drawn.as_slice());
-    map.insert(7, 49)?;
-    let bytes = bytes_of_map(alloc, &map)?;
-    let mut drawn = bytes_of_words(alloc, &ONE_PAIR)?;
-    drawn.extend_from_slice(&SUM_OF_ONE_PAIR.to_be_bytes())?;
-    assert_same(rt, bytes.as_slice(), drawn.as_slice());
-    Ok(())
+    let nothing = [MAGIC, 1, NONE, 0, NONE, 0];
+    check_saved(rt, alloc, &map, &nothing, SUM_OF_NOTHING);
+    assert_true(rt, map.insert(7, 49).is_ok());
+    check_saved(rt, alloc, &map, &ONE_PAIR, SUM_OF_ONE_PAIR);
 }
 
 #[test]
-fn files_are_as_drawn(rt: HostRuntime) -> Result<(), Fail> {
-    check_drawn::<Slots>(&rt, rt.alloc(), rt.alloc())
+fn files_are_as_drawn(rt: HostRuntime) {
+    check_drawn::<Slots>(&rt, rt.alloc(), rt.alloc());
 }
 
 // Checks what comes of a file of these words.
-fn check_file(
-    rt: &impl Abort,
-    alloc: Global,
-    words: &[u64],
-    expected: Verdict,
-) -> Result<(), Fail> {
-    let file = file_of(alloc, words)?;
-    let found = tried_in::<Slots>(rt, alloc, alloc, &file)?;
-    assert_same(rt, found, expected);
-    Ok(())
+fn check_file(rt: &impl Abort, alloc: Global, words: &[u64], expected: Verdict) {
+    let file = file_of(rt, alloc, words);
+    assert_same(rt, tried(rt, alloc, &file), expected);
 }
 
 // Words of {7: 49} with one of them changed, and what comes of the file.
@@ -75,28 +71,25 @@ const CHANGED: [(usize, u64, Verdict); 13] = [
 ];
 
 #[test]
-fn changed_words_have_their_faults(rt: HostRuntime) -> Result<(), Fail> {
+fn changed_words_have_their_faults(rt: HostRuntime) {
     for (at, word, expected) in CHANGED {
         let mut words = ONE_PAIR;
         if let Some(place) = words.get_mut(at) {
             *place = word;
         }
-        check_file(&rt, rt.alloc(), &words, expected)?;
+        check_file(&rt, rt.alloc(), &words, expected);
     }
-    Ok(())
 }
 
 // Checks what comes of the first bytes of {7: 49}.
-fn check_front(rt: &impl Abort, alloc: Global, len: usize, expected: Verdict) -> Result<(), Fail> {
-    let mut file = file_of(alloc, &ONE_PAIR)?;
+fn check_front(rt: &impl Abort, alloc: Global, len: usize, expected: Verdict) {
+    let mut file = file_of(rt, alloc, &ONE_PAIR);
     file.truncate(len);
-    let found = tried_in::<Slots>(rt, alloc, alloc, &file)?;
-    assert_same_in(rt, len, found, expected);
-    Ok(())
+    assert_same_in(rt, len, tried(rt, alloc, &file), expected);
 }
 
 #[test]
-fn fronts_have_their_faults(rt: HostRuntime) -> Result<(), Fail> {
+fn fronts_have_their_faults(rt: HostRuntime) {
     for (len, fault, at) in [
         (0, BadImage::Short, 0),
         (7, BadImage::Short, 0),
@@ -108,24 +101,23 @@ fn fronts_have_their_faults(rt: HostRuntime) -> Result<(), Fail> {
         (88, BadImage::Short, 88),
         (95, BadImage::Short, 88),
     ] {
-        check_front(&rt, rt.alloc(), len, Verdict::Image(fault, at))?;
+        check_front(&rt, rt.alloc(), len, Verdict::Image(fault, at));
     }
-    check_front(&rt, rt.alloc(), 96, Verdict::Opened)
+    check_front(&rt, rt.alloc(), 96, Verdict::Opened);
 }
 
 #[test]
-fn ends_have_their_faults(rt: HostRuntime) -> Result<(), Fail> {
-    let mut longer = file_of(rt.alloc(), &ONE_PAIR)?;
-    longer.push(0)?;
-    let found = tried_in::<Slots>(&rt, rt.alloc(), rt.alloc(), &longer)?;
+fn ends_have_their_faults(rt: HostRuntime) {
+    let mut longer = file_of(&rt, rt.alloc(), &ONE_PAIR);
+    assert_true(&rt, longer.push(0).is_ok());
+    let found = tried(&rt, rt.alloc(), &longer);
     assert_same(&rt, found, Verdict::Image(BadImage::Trailing, 96));
-    let mut other = file_of(rt.alloc(), &ONE_PAIR)?;
+    let mut other = file_of(&rt, rt.alloc(), &ONE_PAIR);
     if let Some(value) = other.get_mut(87) {
         *value = 50;
     }
-    let found = tried_in::<Slots>(&rt, rt.alloc(), rt.alloc(), &other)?;
+    let found = tried(&rt, rt.alloc(), &other);
     assert_same(&rt, found, Verdict::Image(BadImage::Sum, 88));
-    Ok(())
 }
 
 // A leaf of nine items, which descend.
@@ -145,10 +137,10 @@ const SHARED: [u64; 22] = [
 ];
 
 #[test]
-fn trees_have_their_faults(rt: HostRuntime) -> Result<(), Fail> {
+fn trees_have_their_faults(rt: HostRuntime) {
     let alloc = rt.alloc();
-    check_file(&rt, alloc, &NINE, Verdict::Tree(Fault::Overflowing))?;
-    check_file(&rt, alloc, &ROOTLESS, Verdict::Tree(Fault::Unreachable))?;
-    check_file(&rt, alloc, &CYCLE, Verdict::Tree(Fault::WrongParent))?;
-    check_file(&rt, alloc, &SHARED, Verdict::Tree(Fault::AboveSeparator))
+    check_file(&rt, alloc, &NINE, Verdict::Tree(Fault::Overflowing));
+    check_file(&rt, alloc, &ROOTLESS, Verdict::Tree(Fault::Unreachable));
+    check_file(&rt, alloc, &CYCLE, Verdict::Tree(Fault::WrongParent));
+    check_file(&rt, alloc, &SHARED, Verdict::Tree(Fault::AboveSeparator));
 }

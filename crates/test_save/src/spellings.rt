@@ -1,25 +1,19 @@
 //! The bytes of the types that are saved. Each list is written by hand.
 ghost use Rattle.std.specs.Prelude.{◌≡◌, refl};
 
-use crate::asserts::{assert_same, assert_true};
+use crate::asserts::{assert_same, assert_true, given};
 use btree_range_map::Span;
 use btree_spelled::{Spelled, SpelledAs};
 use std::alloc::Global;
 use std::fmt::Debug;
 use std::process::Abort;
-use std::test::Fail;
 
 // Checks that a value has these bytes, that they are read as it before others, and that no front of them is read.
-fn check<T: Spelled + PartialEq + Debug>(
-    rt: &impl Abort,
-    alloc: Global,
-    value: T,
-    bytes: &[u8],
-) -> Result<(), Fail> {
+fn check<T: Spelled + PartialEq + Debug>(rt: &impl Abort, alloc: Global, value: T, bytes: &[u8]) {
     let mut written = Vec::new(alloc);
-    value.put(&mut written)?;
+    given(rt, value.put(&mut written));
     assert_same(rt, written.as_slice(), bytes);
-    written.push(9)?;
+    given(rt, written.push(9));
     match T::take(&written) {
         Some((again, rest)) => {
             assert_same(rt, again, value);
@@ -28,7 +22,6 @@ fn check<T: Spelled + PartialEq + Debug>(
         None => panic!(rt; "not read"),
     }
     check_fronts::<T>(rt, bytes);
-    Ok(())
 }
 
 // Checks that no front of bytes is read.
@@ -39,59 +32,59 @@ fn check_fronts<T: Spelled>(rt: &impl Abort, bytes: &[u8]) {
 }
 
 #[test]
-fn numbers_have_their_bytes(rt: HostRuntime) -> Result<(), Fail> {
+fn numbers_have_their_bytes(rt: HostRuntime) {
     let alloc = rt.alloc();
-    check(&rt, alloc, 200u8, &[200])?;
-    check(&rt, alloc, 0x0102u16, &[1, 2])?;
-    check(&rt, alloc, 0x0102_0304u32, &[1, 2, 3, 4])?;
+    check(&rt, alloc, 200u8, &[200]);
+    check(&rt, alloc, 0x0102u16, &[1, 2]);
+    check(&rt, alloc, 0x0102_0304u32, &[1, 2, 3, 4]);
     let eight = [1, 2, 3, 4, 5, 6, 7, 8];
-    check(&rt, alloc, 0x0102_0304_0506_0708u64, &eight)?;
-    check(&rt, alloc, 258usize, &[0, 0, 0, 0, 0, 0, 1, 2])?;
+    check(&rt, alloc, 0x0102_0304_0506_0708u64, &eight);
+    check(&rt, alloc, 258usize, &[0, 0, 0, 0, 0, 0, 1, 2]);
     let sixteen = [0, 0, 0, 0, 0, 0, 0, 7, 8, 9, 10, 11, 12, 13, 14, 15];
-    check(&rt, alloc, 0x07_0809_0a0b_0c0d_0e0fu128, &sixteen)
+    check(&rt, alloc, 0x07_0809_0a0b_0c0d_0e0fu128, &sixteen);
 }
 
 #[test]
-fn signed_numbers_have_their_bytes(rt: HostRuntime) -> Result<(), Fail> {
+fn signed_numbers_have_their_bytes(rt: HostRuntime) {
     let alloc = rt.alloc();
-    check(&rt, alloc, -1i8, &[255])?;
-    check(&rt, alloc, i8::MIN, &[128])?;
-    check(&rt, alloc, -2i16, &[255, 254])?;
-    check(&rt, alloc, 258i16, &[1, 2])?;
-    check(&rt, alloc, i32::MIN, &[128, 0, 0, 0])?;
-    check(&rt, alloc, -1i64, &[255; 8])?;
+    check(&rt, alloc, -1i8, &[255]);
+    check(&rt, alloc, i8::MIN, &[128]);
+    check(&rt, alloc, -2i16, &[255, 254]);
+    check(&rt, alloc, 258i16, &[1, 2]);
+    check(&rt, alloc, i32::MIN, &[128, 0, 0, 0]);
+    check(&rt, alloc, -1i64, &[255; 8]);
     let most = [127, 255, 255, 255, 255, 255, 255, 255];
-    check(&rt, alloc, i64::MAX, &most)?;
+    check(&rt, alloc, i64::MAX, &most);
     let below = [255, 255, 255, 255, 255, 255, 255, 254];
-    check(&rt, alloc, -2isize, &below)?;
-    check(&rt, alloc, -1i128, &[255; 16])
+    check(&rt, alloc, -2isize, &below);
+    check(&rt, alloc, -1i128, &[255; 16]);
 }
 
 #[test]
-fn others_have_their_bytes(rt: HostRuntime) -> Result<(), Fail> {
+fn others_have_their_bytes(rt: HostRuntime) {
     let alloc = rt.alloc();
-    check(&rt, alloc, true, &[1])?;
-    check(&rt, alloc, false, &[0])?;
-    check(&rt, alloc, (), &[])?;
-    check(&rt, alloc, 'A', &[0, 0, 0, 65])?;
-    check(&rt, alloc, '\u{10ffff}', &[0, 0x10, 255, 255])?;
-    check(&rt, alloc, (7u8, (true, -1i16)), &[7, 1, 255, 255])?;
-    check(&rt, alloc, [1u8, 2, 3], &[1, 2, 3])?;
-    check(&rt, alloc, [0u8; 0], &[])?;
+    check(&rt, alloc, true, &[1]);
+    check(&rt, alloc, false, &[0]);
+    check(&rt, alloc, (), &[]);
+    check(&rt, alloc, 'A', &[0, 0, 0, 65]);
+    check(&rt, alloc, '\u{10ffff}', &[0, 0x10, 255, 255]);
+    check(&rt, alloc, (7u8, (true, -1i16)), &[7, 1, 255, 255]);
+    check(&rt, alloc, [1u8, 2, 3], &[1, 2, 3]);
+    check(&rt, alloc, [0u8; 0], &[]);
     let span = Span {
         end: 258,
         value: 7u8,
     };
-    check(&rt, alloc, span, &[0, 0, 0, 0, 0, 0, 1, 2, 7])
+    check(&rt, alloc, span, &[0, 0, 0, 0, 0, 0, 1, 2, 7]);
 }
 
 #[test]
-fn arrays_have_their_bytes(rt: HostRuntime) -> Result<(), Fail> {
+fn arrays_have_their_bytes(rt: HostRuntime) {
     let alloc = rt.alloc();
-    check(&rt, alloc, [0x0102u16, 3, 0xff04], &[1, 2, 0, 3, 255, 4])?;
-    check(&rt, alloc, [0x0102_0304u32, 5], &[1, 2, 3, 4, 0, 0, 0, 5])?;
-    check(&rt, alloc, [6u64], &[0, 0, 0, 0, 0, 0, 0, 6])?;
-    check(&rt, alloc, [0u64; 0], &[])
+    check(&rt, alloc, [0x0102u16, 3, 0xff04], &[1, 2, 0, 3, 255, 4]);
+    check(&rt, alloc, [0x0102_0304u32, 5], &[1, 2, 3, 4, 0, 0, 0, 5]);
+    check(&rt, alloc, [6u64], &[0, 0, 0, 0, 0, 0, 0, 6]);
+    check(&rt, alloc, [0u64; 0], &[]);
 }
 
 // A point with a mark, as the pair of its place and its mark.
@@ -123,13 +116,13 @@ impl SpelledAs for Point {
 }
 
 #[test]
-fn types_of_ones_own_have_the_bytes_of_their_parts(rt: HostRuntime) -> Result<(), Fail> {
+fn types_of_ones_own_have_the_bytes_of_their_parts(rt: HostRuntime) {
     let point = Point {
         across: -2,
         up: 258,
         mark: 'A',
     };
-    check(&rt, rt.alloc(), point, &[255, 254, 1, 2, 0, 0, 0, 65])
+    check(&rt, rt.alloc(), point, &[255, 254, 1, 2, 0, 0, 0, 65]);
 }
 
 // Bytes that no value has: a third boolean, and codes within the gap of the characters and past their end.

@@ -1,5 +1,5 @@
 //! Readers and writers that fail, and memory that is refused.
-use crate::asserts::{assert_same, assert_same_in, assert_true};
+use crate::asserts::{assert_same, assert_same_in, assert_true, given};
 use crate::maps::{Slots, check_squares, saved_squares, squares};
 use crate::verdicts::{Verdict, verdict_of};
 use btree_map::BTreeMap;
@@ -10,7 +10,6 @@ use std::alloc::Global;
 use std::io;
 use std::io::{Cursor, ErrorKind, Read, Write};
 use std::process::Abort;
-use std::test::Fail;
 use test_support::Refusing;
 
 // Gives a byte at each read, and fails in place of the byte at `cut`.
@@ -52,16 +51,19 @@ fn open_to<C: Fill<Node<u64, u64>> + Drop>(
 }
 
 // A map is not opened where its reader fails, also after the last byte, and is where it does not.
-#[test]
-fn readers_fail(rt: HostRuntime) -> Result<(), Fail> {
-    let bytes = saved_squares::<Slots>(rt.alloc(), rt.alloc(), 9)?;
+fn read_to_each<C: Fill<Node<u64, u64>, Origin = Global> + Drop>(rt: &impl Abort, alloc: Global) {
+    let bytes = saved_squares::<C>(rt, alloc, alloc, 9);
     for cut in 0..=bytes.len() {
-        let found = open_to::<Slots>(rt.alloc(), rt.alloc(), &bytes, cut);
-        assert_same_in(&rt, cut, found, Verdict::Read);
+        let found = open_to::<C>(alloc, alloc, &bytes, cut);
+        assert_same_in(rt, cut, found, Verdict::Read);
     }
-    let found = open_to::<Slots>(rt.alloc(), rt.alloc(), &bytes, usize::MAX);
-    assert_same(&rt, found, Verdict::Opened);
-    Ok(())
+    let found = open_to::<C>(alloc, alloc, &bytes, usize::MAX);
+    assert_same(rt, found, Verdict::Opened);
+}
+
+#[test]
+fn readers_fail(rt: HostRuntime) {
+    read_to_each::<Slots>(&rt, rt.alloc());
 }
 
 // Takes at most three bytes at each write, and fails once it has `most`.
@@ -93,8 +95,8 @@ fn is_written<C: NodesMut<u64, u64>>(
     alloc: Global,
     map: &BTreeMap<u64, u64, C>,
     most: usize,
-) -> Result<bool, Fail> {
-    let bytes = bytes_of_map(alloc, map)?;
+) -> bool {
+    let bytes = given(rt, bytes_of_map(alloc, map));
     let mut out = Slow {
         written: Vec::new(alloc),
         most,
@@ -109,28 +111,23 @@ fn is_written<C: NodesMut<u64, u64>>(
     };
     assert_true(rt, bytes.starts_with(&out.written));
     assert_same(rt, out.written.len() == bytes.len(), is_saved);
-    Ok(is_saved)
+    is_saved
 }
 
 // The map {7: 49} has 96 bytes.
-fn write_one<C: NodesMut<u64, u64> + Drop>(
-    rt: &impl Abort,
-    alloc: Global,
-    origin: C::Origin,
-) -> Result<(), Fail> {
+fn write_one<C: NodesMut<u64, u64> + Drop>(rt: &impl Abort, alloc: Global, origin: C::Origin) {
     let mut map: BTreeMap<u64, u64, C> = BTreeMap::new(origin);
-    map.insert(7, 49)?;
+    assert_true(rt, map.insert(7, 49).is_ok());
     for most in 0..100 {
-        let is = is_written(rt, alloc, &map, most)?;
+        let is = is_written(rt, alloc, &map, most);
         assert_same_in(rt, most, is, most > 93);
     }
-    Ok(())
 }
 
 // 96 bytes are 32 writes of three: a writer that fails once it has 94 has taken all by then.
 #[test]
-fn writers_fail(rt: HostRuntime) -> Result<(), Fail> {
-    write_one::<Slots>(&rt, rt.alloc(), rt.alloc())
+fn writers_fail(rt: HostRuntime) {
+    write_one::<Slots>(&rt, rt.alloc(), rt.alloc());
 }
 
 // Saves a map with memory that refuses the `at`-th allocation. It is saved exactly if none was refused, and else nothing is written.
@@ -159,20 +156,19 @@ fn save_without_memory<C: NodesMut<u64, u64> + Drop>(
     rt: &impl Abort,
     alloc: Global,
     origin: C::Origin,
-) -> Result<(), Fail> {
+) {
     let memory = Refusing::over(alloc, 0);
-    let map: BTreeMap<u64, u64, C> = squares(origin, 44)?;
+    let map: BTreeMap<u64, u64, C> = squares(rt, origin, 44);
     assert_true(rt, !save_with(rt, alloc, &memory, &map, 1));
     for at in 2..40 {
         save_with(rt, alloc, &memory, &map, at);
     }
     assert_true(rt, save_with(rt, alloc, &memory, &map, 40));
-    Ok(())
 }
 
 #[test]
-fn memory_for_the_bytes_is_refused(rt: HostRuntime) -> Result<(), Fail> {
-    save_without_memory::<Slots>(&rt, rt.alloc(), rt.alloc())
+fn memory_for_the_bytes_is_refused(rt: HostRuntime) {
+    save_without_memory::<Slots>(&rt, rt.alloc(), rt.alloc());
 }
 
 // Opens bytes with memory that refuses the `at`-th allocation. They are opened exactly if none was refused, and else the store has no room.
@@ -200,46 +196,44 @@ fn open_with<'m, C: Fill<Node<u64, u64>> + Drop>(
 // A store over memory that refuses.
 type Refused<'m> = SlotStore<Node<u64, u64>, &'m Refusing<Global>>;
 
-#[test]
-fn memory_for_the_nodes_is_refused(rt: HostRuntime) -> Result<(), Fail> {
-    let bytes = saved_squares::<Slots>(rt.alloc(), rt.alloc(), 44)?;
-    let memory = Refusing::over(rt.alloc(), 0);
-    assert_same(
-        &rt,
-        open_with::<Refused>(&rt, &memory, &memory, &bytes, 1),
-        Verdict::Store,
-    );
+// Opens bytes with memory that refuses each allocation in turn, the first one at least, until no more are needed.
+fn open_without_memory<'m, C: Fill<Node<u64, u64>, Origin = &'m Refusing<Global>> + Drop>(
+    rt: &impl Abort,
+    memory: &'m Refusing<Global>,
+    bytes: &[u8],
+) {
+    let first = open_with::<C>(rt, memory, memory, bytes, 1);
+    assert_same(rt, first, Verdict::Store);
     for at in 2..40 {
-        open_with::<Refused>(&rt, &memory, &memory, &bytes, at);
+        open_with::<C>(rt, memory, memory, bytes, at);
     }
-    assert_same(
-        &rt,
-        open_with::<Refused>(&rt, &memory, &memory, &bytes, 40),
-        Verdict::Opened,
-    );
-    Ok(())
+    let last = open_with::<C>(rt, memory, memory, bytes, 40);
+    assert_same(rt, last, Verdict::Opened);
+}
+
+#[test]
+fn memory_for_the_nodes_is_refused(rt: HostRuntime) {
+    let bytes = saved_squares::<Slots>(&rt, rt.alloc(), rt.alloc(), 44);
+    let memory = Refusing::over(rt.alloc(), 0);
+    open_without_memory::<Refused>(&rt, &memory, &bytes);
 }
 
 // Saves two maps one after the other, and opens each from its part.
-fn append_squares<C: Fill<Node<u64, u64>, Origin = Global> + Drop>(
-    rt: &impl Abort,
-    alloc: Global,
-) -> Result<(), Fail> {
+fn append_squares<C: Fill<Node<u64, u64>, Origin = Global> + Drop>(rt: &impl Abort, alloc: Global) {
     let mut file = Vec::new(alloc);
-    save(alloc, &squares::<C>(alloc, 3)?, &mut file)?;
+    given(rt, save(alloc, &squares::<C>(rt, alloc, 3), &mut file));
     let seam = file.len();
-    save(alloc, &squares::<C>(alloc, 44)?, &mut file)?;
+    given(rt, save(alloc, &squares::<C>(rt, alloc, 44), &mut file));
     assert_true(rt, seam <= file.len());
     let (front, rest) = file.split_at(seam);
-    let again: BTreeMap<u64, u64, C> = map_of_bytes(alloc, front)?;
+    let again: BTreeMap<u64, u64, C> = given(rt, map_of_bytes(alloc, front));
     check_squares(rt, &again, 3);
     let mut input = Cursor::new(rest);
-    let again: BTreeMap<u64, u64, C> = open(alloc, alloc, &mut input)?;
+    let again: BTreeMap<u64, u64, C> = given(rt, open(alloc, alloc, &mut input));
     check_squares(rt, &again, 44);
-    Ok(())
 }
 
 #[test]
-fn appends_to_a_writer(rt: HostRuntime) -> Result<(), Fail> {
-    append_squares::<Slots>(&rt, rt.alloc())
+fn appends_to_a_writer(rt: HostRuntime) {
+    append_squares::<Slots>(&rt, rt.alloc());
 }

@@ -1,5 +1,6 @@
 //! What comes of bytes.
-use crate::asserts::{assert_same, assert_true};
+use crate::asserts::{assert_same, assert_true, given};
+use crate::maps::Slots;
 use btree_ext::BTreeExt;
 use btree_image::BadImage;
 use btree_item::Fault;
@@ -9,7 +10,6 @@ use btree_node::Node;
 use btree_save::{OpenError, bytes_of_map, map_of_bytes};
 use std::alloc::Global;
 use std::process::Abort;
-use std::test::Fail;
 
 /// What comes of bytes: a map, or a fault of the image and its place, or a fault of the tree, or a store that has no room.
 #[derive(Clone, Copy, Debug, PartialEq)]
@@ -37,16 +37,22 @@ pub(crate) fn tried_in<C: Fill<Node<u64, u64>> + Drop>(
     alloc: Global,
     origin: C::Origin,
     bytes: &[u8],
-) -> Result<Verdict, Fail> {
+) -> Verdict {
     let opened: Result<BTreeMap<u64, u64, C>, OpenError> = map_of_bytes(origin, bytes);
     match opened {
         Ok(map) => {
             assert_true(rt, map.validate().is_ok());
-            assert_same(rt, bytes_of_map(alloc, &map)?.as_slice(), bytes);
-            Ok(Verdict::Opened)
+            let again = given(rt, bytes_of_map(alloc, &map));
+            assert_same(rt, again.as_slice(), bytes);
+            Verdict::Opened
         }
-        Err(error) => Ok(verdict_of(error)),
+        Err(error) => verdict_of(error),
     }
+}
+
+/// Opens bytes so, in slots.
+pub(crate) fn tried(rt: &impl Abort, alloc: Global, bytes: &[u8]) -> Verdict {
+    tried_in::<Slots>(rt, alloc, alloc, bytes)
 }
 
 /// How many lists of bytes were opened, were no image, and were no tree.

@@ -1,6 +1,8 @@
 //! Files made of words.
+use crate::asserts::given;
 use btree_image::check_sum_of;
-use std::alloc::{AllocError, Global};
+use std::alloc::Global;
+use std::process::Abort;
 
 /// The number that stands for no node, and for no limit.
 pub(crate) const NONE: u64 = u64::MAX;
@@ -8,24 +10,29 @@ pub(crate) const NONE: u64 = u64::MAX;
 /// The word that each file begins with.
 pub(crate) const MAGIC: u64 = 0x6274_7265_6573_6176;
 
+/// Appends a word to bytes.
+pub(crate) fn put_word(rt: &impl Abort, bytes: &mut Vec<u8>, word: u64) {
+    given(rt, bytes.extend_from_slice(&word.to_be_bytes()));
+}
+
 /// Returns the bytes of these words.
-pub(crate) fn bytes_of_words(alloc: Global, words: &[u64]) -> Result<Vec<u8>, AllocError> {
+pub(crate) fn bytes_of_words(rt: &impl Abort, alloc: Global, words: &[u64]) -> Vec<u8> {
     let mut bytes = Vec::new(alloc);
     for word in words {
-        bytes.extend_from_slice(&word.to_be_bytes())?;
+        put_word(rt, &mut bytes, *word);
     }
-    Ok(bytes)
+    bytes
 }
 
 /// Appends the check sum of bytes to them.
-pub(crate) fn add_sum(bytes: &mut Vec<u8>) -> Result<(), AllocError> {
+pub(crate) fn add_sum(rt: &impl Abort, bytes: &mut Vec<u8>) {
     let sum = check_sum_of(bytes.as_slice());
-    bytes.extend_from_slice(&sum.to_be_bytes())
+    put_word(rt, bytes, sum);
 }
 
 /// Returns the file with these words and their check sum.
-pub(crate) fn file_of(alloc: Global, words: &[u64]) -> Result<Vec<u8>, AllocError> {
-    let mut bytes = bytes_of_words(alloc, words)?;
-    add_sum(&mut bytes)?;
-    Ok(bytes)
+pub(crate) fn file_of(rt: &impl Abort, alloc: Global, words: &[u64]) -> Vec<u8> {
+    let mut bytes = bytes_of_words(rt, alloc, words);
+    add_sum(rt, &mut bytes);
+    bytes
 }
