@@ -1,16 +1,16 @@
 -- What callers conclude from the words of a map of ranges: which numbers are between two others, which values they have after
--- an insertion, and how many have one after a call, which values the ranges have that meet some numbers, which numbers are in a gap or below
--- it, where a gap is, how many parts an update has, and that `==` is equality of the ranges.
+-- an insertion, how many have one after a call, which values the ranges have that meet some numbers, which numbers are in a gap
+-- or below it, where a gap is, how many parts an update has, and that `==` is equality of the ranges.
 -- The ruleset gives `search` the laws on insertions, on ranges that meet, on gaps and on parts.
 use Rattle.std.proofs.Common.{◌≡◌, ◌≤◌, ◌<◌, ◌+◌, ◌-◌, ◌∙◌, ◌&&◌, ◌||◌, not, ℕ, max, min, Bool, true, false, is_some, nat_eq, nat_le, nat_lt, List, [], ◌∷◌, cond, Option, Some, None, refl, sym, ap, arith, ◌⊎◌, inl, inr, Decides}
-use Rattle.std.proofs.lemmas.Bool.{and_from, and_parts, cases_Bool, eq-eqb, eqb-true, le-leb, leb-true, lt-ltb, ltb-true}
+use Rattle.std.proofs.lemmas.Bool.{and_from, and_parts, cases_Bool, eq-eqb, eqb-true, le-leb, leb-true, lt-ltb, ltb-true, or_right}
 use Rattle.std.proofs.lemmas.List.{length-map}
 use Rattle.std.proofs.lemmas.List.Sums.{count_by-le-length, length-filter}
 use Rattle.std.specs.Prelude.{length}
 use Rattle.std.specs.Cmp.Lexicographic.{pointwise_decides}
 use Rattle.btree_map.specs.Comparison.{pair_eq}
 use Rattle.btree_range_map.specs.declared.span.Span.{Span}
-use Rattle.btree_range_set.specs.CallerLaws.{gaps-below, gaps-first, gaps-none, gaps-rest, gaps-some, within-above, within-below}
+use Rattle.btree_range_set.specs.CallerLaws.{gaps-below, gaps-first, gaps-none, gaps-rest, gaps-some, or_false, within-above, within-below}
 use Rattle.btree_range_set.specs.CountLaws.{count-added, count-taken}
 use Rattle.btree_range_map.specs.Counts.{count_between}
 use Rattle.btree_range_map.specs.Gaps.{AreGaps}
@@ -40,14 +40,6 @@ pub between-above : (s e n : ℕ) → e ≤ n → is_between s e n ≡ false
 between-above s e n above = within-above (s, e) n above
 
 -- ---- insertions
-or-true : (b : Bool) → (b || true) ≡ true
-or-true true = refl
-or-true false = refl
-
-or-false : (b : Bool) → (b || false) ≡ b
-or-false true = refl
-or-false false = refl
-
 module _ {V : Type 0} (old new : List (ℕ × Span V)) (s e : ℕ) (value : V) (is : IsAssigned old s e value new) where
   -- a number that was inserted has the value
   pub found-inserted : (n : ℕ) → is_between s e n ≡ true → value_at new n ≡ Some value
@@ -61,8 +53,8 @@ module _ {V : Type 0} (old new : List (ℕ × Span V)) (s e : ℕ) (value : V) (
   pub has-inserted : (n : ℕ) → has_value new n ≡ (has_value old n || is_between s e n)
   has-inserted n = by (cases_Bool (is_between s e n)) where
     by : (is_between s e n ≡ true) ⊎ (is_between s e n ≡ false) → has_value new n ≡ (has_value old n || is_between s e n)
-    by (inl inside) = ap (λ v. is_some v) (found-inserted n inside) ∙ sym (ap (λ b. has_value old n || b) inside ∙ or-true (has_value old n))
-    by (inr out) = ap (λ v. is_some v) (found-other n out) ∙ sym (ap (λ b. has_value old n || b) out ∙ or-false (has_value old n))
+    by (inl inside) = ap (λ v. is_some v) (found-inserted n inside) ∙ sym (or_right (has_value old n) (is_between s e n) inside)
+    by (inr out) = ap (λ v. is_some v) (found-other n out) ∙ sym (or_false (has_value old n) (is_between s e n) out)
 
   -- if the numbers had no value, so many more have one
   pub count-inserted : (low high : ℕ) → low ≤ s → s ≤ e → e ≤ high → ((n : ℕ) → is_between s e n ≡ true → has_value old n ≡ false)

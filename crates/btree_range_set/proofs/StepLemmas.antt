@@ -65,9 +65,6 @@ join-runs xs p s e x runs at low ends starts =
     runs-set 0 xs p (s, max e x.1) runs (slice_get_within xs p x at) (omega (arith, here.1, low)) (λ _. omega arith) ends
     (λ y there. let apart = next-apart 0 xs p x y runs at there in let above = starts y there in omega (arith, apart, above))
 
-or-true : (b c : Bool) → b ≡ true → (b || c) ≡ true
-or-true b c is = rw is refl
-
 -- numbers that a range of the set has may be added too
 pub join-wider : (xs : List (ℕ × ℕ)) (q s e : ℕ) (x : ℕ × ℕ) → slice_get xs q ≡ Some x → x.0 ≤ s → s ≤ x.1
     → (n : ℕ) → (has_number xs n || is_within (x.0, e) n) ≡ (has_number xs n || is_within (s, e) n)
@@ -77,7 +74,7 @@ join-wider xs q s e x at low high n = by (cases_Bool (has_number xs n)) where
   by (inr has_not) = rw has_not (elim (cases_lt n x.0) [
     | inl lt ↦ within-below (x.0, e) n lt ∙ sym (within-below (s, e) n (omega (arith, lt, low)))
     | inr ge ↦ elim (cases_lt n s) [
-      | inl lt ↦ let yes = has-taken xs q x at n ∙ or-true (is_within x n) (has_number (remove xs q) n) (within-from x n ge (omega (arith, lt, high))) in absurd (cc)
+      | inl lt ↦ let yes = has-taken xs q x at n ∙ or_left (is_within x n) (has_number (remove xs q) n) (within-from x n ge (omega (arith, lt, high))) in absurd (cc)
       | inr from ↦ elim (cases_lt n e) [
         | inl lt ↦ within-from (x.0, e) n ge lt ∙ sym (within-from (s, e) n from lt)
         | inr above ↦ within-above (x.0, e) n above ∙ sym (within-above (s, e) n above)

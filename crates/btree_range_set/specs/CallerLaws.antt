@@ -39,21 +39,17 @@ pub within-above : (r : ℕ × ℕ) (n : ℕ) → r.1 ≤ n → is_within r n �
 within-above r n above = within-not r n (λ is. omega (arith, above, within-high r n is))
 
 -- ---- insertions
-or-right : (b : Bool) → (b || true) ≡ true
-or-right true = refl
-or-right false = refl
-
-or-none : (b : Bool) → (b || false) ≡ b
-or-none true = refl
-or-none false = refl
+pub or_false : (b c : Bool) → c ≡ false → (b || c) ≡ b
+or_false true c fails = refl
+or_false false c fails = fails
 
 -- a number that was inserted is in the set
 pub found-inserted : (old new : List (ℕ × ℕ)) (s e n : ℕ) → IsUnion old s e new → is_within (s, e) n ≡ true → has_number new n ≡ true
-found-inserted old new s e n is inside = is n ∙ ap (λ b. has_number old n || b) inside ∙ or-right (has_number old n)
+found-inserted old new s e n is inside = is n ∙ or_right (has_number old n) (is_within (s, e) n) inside
 
 -- another one is if it was
 pub found-other : (old new : List (ℕ × ℕ)) (s e n : ℕ) → IsUnion old s e new → is_within (s, e) n ≡ false → has_number new n ≡ has_number old n
-found-other old new s e n is out = is n ∙ ap (λ b. has_number old n || b) out ∙ or-none (has_number old n)
+found-other old new s e n is out = is n ∙ or_false (has_number old n) (is_within (s, e) n) out
 
 -- ---- the ranges that meet some numbers
 -- of these numbers, the set has those that the ranges have

@@ -1,6 +1,7 @@
 -- What a count of numbers is, from which of them pass the test.
 use Rattle.std.proofs.Common.{◌≡◌, ◌≤◌, ◌<◌, ◌+◌, ◌-◌, ◌∙◌, ◌||◌, ◌&&◌, not, ℕ, zero, suc, Bool, true, false, cond, List, refl, ap, arith}
-use Rattle.btree_range_set.specs.CallerLaws.{within-above, within-below, within-from}
+use Rattle.std.proofs.lemmas.Bool.{and_right, or_right}
+use Rattle.btree_range_set.specs.CallerLaws.{or_false, within-above, within-below, within-from}
 use Rattle.btree_range_set.specs.Counts.{count_between, count_from}
 use Rattle.btree_range_set.specs.Ranges.{IsDifference, IsUnion, has_number, is_within}
 
@@ -65,21 +66,9 @@ count-same test other start (suc count) same =
     let rest = count-same test other (suc start) count (λ n low high. same n (omega arith) (omega arith)) in
     omega (arith, here, rest)
 
-or_false : (a b : Bool) → b ≡ false → (a || b) ≡ a
-or_false true b fails = refl
-or_false false b fails = fails
-
-or_true : (a : Bool) → (a || true) ≡ true
-or_true true = refl
-or_true false = refl
-
 and_true : (a : Bool) → (a && true) ≡ a
 and_true true = refl
 and_true false = refl
-
-and_false : (a : Bool) → (a && false) ≡ false
-and_false true = refl
-and_false false = refl
 
 module _ (start count at size : ℕ) (from : start ≤ at) (to : at + size ≤ start + count) where
   -- a count is that of the numbers before the `size` ones from `at` on, of these, and of those after them
@@ -111,7 +100,7 @@ pub count-added : (old new : ℕ → Bool) (start count at size : ℕ) → start
 count-added old new start count at size from to free is =
     let changed = count-changed start count at size from to old new (λ n out. is n ∙ or_false (old n) (is_within (at, at + size) n) out) in
     let none = count-none old at size (λ n low high. free n (within-from (at, at + size) n low high)) in
-    let all = count-all new at size (λ n low high. is n ∙ ap (λ (b : Bool). old n || b) (within-from (at, at + size) n low high) ∙ or_true (old n)) in
+    let all = count-all new at size (λ n low high. is n ∙ or_right (old n) (is_within (at, at + size) n) (within-from (at, at + size) n low high)) in
     omega (arith, changed, none, all)
 
 -- if these do not pass now, and the others are as they were, there are so many fewer as passed of these
@@ -120,23 +109,23 @@ pub count-taken : (old new : ℕ → Bool) (start count at size : ℕ) → start
     → count_from new start count + count_from old at size ≡ count_from old start count
 count-taken old new start count at size from to is =
     let changed = count-changed start count at size from to old new (λ n out. is n ∙ ap (λ (b : Bool). old n && not b) out ∙ and_true (old n)) in
-    let none = count-none new at size (λ n low high. is n ∙ ap (λ (b : Bool). old n && not b) (within-from (at, at + size) n low high) ∙ and_false (old n)) in
+    let none = count-none new at size (λ n low high. is n ∙ and_right (old n) (not (is_within (at, at + size) n)) (ap not (within-from (at, at + size) n low high))) in
     omega (arith, changed, none)
 
-module _ (old new : List (ℕ × ℕ)) (s e : ℕ) (low high : ℕ) (from : low ≤ s) (some : s ≤ e) (to : e ≤ high) where
-  last : e ≡ s + (e - s)
-  last = omega (arith, some)
+module _ (old new : List (ℕ × ℕ)) (s e : ℕ) where
+  last : s ≤ e → e ≡ s + (e - s)
+  last some = omega (arith, some)
 
   -- if none of the numbers was in the set, so many more are in it after an insertion
-  pub count-inserted : IsUnion old s e new → ((n : ℕ) → is_within (s, e) n ≡ true → has_number old n ≡ false)
+  pub count-inserted : IsUnion old s e new → (low high : ℕ) → low ≤ s → s ≤ e → e ≤ high → ((n : ℕ) → is_within (s, e) n ≡ true → has_number old n ≡ false)
       → count_between new low high ≡ count_between old low high + (e - s)
-  count-inserted is free =
+  count-inserted is low high from some to free =
       count-added (has_number old) (has_number new) low (high - low) s (e - s) from (omega (arith, from, some, to))
-      (λ n inside. free n (ap (λ (k : ℕ). is_within (s, k) n) last ∙ inside))
-      (λ n. is n ∙ ap (λ (k : ℕ). has_number old n || is_within (s, k) n) last)
+      (λ n inside. free n (ap (λ (k : ℕ). is_within (s, k) n) (last some) ∙ inside))
+      (λ n. is n ∙ ap (λ (k : ℕ). has_number old n || is_within (s, k) n) (last some))
 
   -- after a removal so many fewer are in it as were of the numbers
-  pub count-removed : IsDifference old s e new → count_between new low high + count_between old s e ≡ count_between old low high
-  count-removed is =
+  pub count-removed : IsDifference old s e new → (low high : ℕ) → low ≤ s → s ≤ e → e ≤ high → count_between new low high + count_between old s e ≡ count_between old low high
+  count-removed is low high from some to =
       count-taken (has_number old) (has_number new) low (high - low) s (e - s) from (omega (arith, from, some, to))
-      (λ n. is n ∙ ap (λ (k : ℕ). has_number old n && not (is_within (s, k) n)) last)
+      (λ n. is n ∙ ap (λ (k : ℕ). has_number old n && not (is_within (s, k) n)) (last some))
