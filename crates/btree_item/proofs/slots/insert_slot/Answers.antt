@@ -1,6 +1,17 @@
-use Rattle.btree_item.proofs.Common.{◌≡◌, ◌+◌, ◌<◌, length, set, suc, refl, ◌∙◌, ap, take, arith, insert}
+use Rattle.btree_item.proofs.Common.{◌≡◌, ◌+◌, ◌<◌, length, set, suc, refl, ◌∙◌, ap, take, arith, insert, ℕ, List, sym, refill}
 use Rattle.btree_item.proofs.StoreLemmas.{carried-right, length-stored, read-at, stored}
+use borrow.Author.Rules.{scaled_Fits}
+use Rattle.std.proofs.lemmas.List.{length-take-le, take_more_set}
+use Rattle.std.proofs.lemmas.List.Edits.{insert_end}
 use Rattle.btree_item.proofs.slots.insert_slot.Goals as goal
+
+-- an element stored behind the first n is inserted at their end
+stored_last : {X : Type 0} (xs ys : List X) (n : ℕ) (y : X) → ys ≡ xs → n < length xs → take (n + 1) (refill (length xs) xs (set ys n y)) ≡ insert (take n xs) n y
+stored_last xs ys n y is within =
+    ap (take (n + 1)) (stored xs ys n y is)
+    ∙ take_more_set xs n y within
+    ∙ sym (insert_end (take n xs) y)
+    ∙ ap (λ k. insert (take n xs) k y) (length-take-le n xs (omega (arith, within)))
 
 pub loop-i-preserved : goal.loop-i-preserved
 loop-i-preserved g c =
@@ -48,3 +59,22 @@ bounds-as_mut_slice-len g c =
 
 pub returns-clause-same : goal.returns-clause-same
 returns-clause-same g c = length-stored c.loop-i.slots.items _ c.args.len c.loop-i.carried c.as_mut_slice-2.ensures.value ∙ c.loop-i.invariant.same
+
+pub offset_bounds-as_mut_slice-i : goal.offset_bounds-as_mut_slice-i
+offset_bounds-as_mut_slice-i g c =
+    let same = c.loop-i.invariant.same in
+    scaled_Fits _ _ _ (rw c.as_mut_slice.ensures.value (omega (arith, c.requires.room, same, c.loop-i-test.true))) c.as_mut_slice.type_inv.1
+
+pub offset_bounds-as_mut_slice-len : goal.offset_bounds-as_mut_slice-len
+offset_bounds-as_mut_slice-len g c =
+    let same = c.loop-i.invariant.same in
+    scaled_Fits _ _ _ (rw c.as_mut_slice-2.ensures.value (omega (arith, c.requires.room, same))) c.as_mut_slice-2.type_inv.1
+
+pub returns-clause-after : goal.returns-clause-after
+returns-clause-after g c =
+    let xs = c.loop-i.slots.items in
+    let same = c.loop-i.invariant.same in
+    let at : c.args.len ≡ c.loop-i.i = (let f = c.loop-i-test.false in let e = c.loop-i.auto.i-end c.requires.within in omega (arith, f, e)) in
+    stored_last xs _ c.args.len c.loop-i.carried c.as_mut_slice-2.ensures.value (omega (arith, c.requires.room, same))
+    ∙ ap (λ k. insert (take c.args.len xs) k c.loop-i.carried) at
+    ∙ c.loop-i.invariant.carried

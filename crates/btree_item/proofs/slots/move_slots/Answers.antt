@@ -1,5 +1,6 @@
 use Rattle.btree_item.proofs.Common.{◌≡◌, ◌+◌, ◌<◌, ◌++◌, refl, suc, length, take, drop, set, ap, ◌∙◌, arith, refill}
 use Rattle.btree_item.proofs.StoreLemmas.{length-stored, moved-next, read-at, stored, stored-after-from}
+use borrow.Author.Rules.{scaled_Fits}
 use Rattle.btree_item.proofs.slots.move_slots.Goals as goal
 
 pub loop-i-preserved : goal.loop-i-preserved
@@ -67,3 +68,14 @@ returns-clause-same g c = c.loop-i.invariant.same
 
 pub returns-clause-same_to : goal.returns-clause-same_to
 returns-clause-same_to g c = c.loop-i.invariant.same_to
+
+pub offset_bounds-as_mut_slice-i : goal.offset_bounds-as_mut_slice-i
+offset_bounds-as_mut_slice-i g c =
+    let same = c.loop-i.invariant.same in
+    scaled_Fits _ _ _ (rw c.as_mut_slice.ensures.value (omega (arith, c.requires.fits, same, c.loop-i-test.true))) c.as_mut_slice.type_inv.1
+
+pub offset_bounds-as_mut_slice-place : goal.offset_bounds-as_mut_slice-place
+offset_bounds-as_mut_slice-place g c =
+    let same = c.loop-i.invariant.same_to in
+    let place = c.loop-i.invariant.place in
+    scaled_Fits _ _ _ (rw c.as_mut_slice-in-loop-i.ensures.value (omega (arith, c.requires.room, same, place, c.loop-i-test.true, c.loop-i.invariant.from))) c.as_mut_slice-in-loop-i.type_inv.1

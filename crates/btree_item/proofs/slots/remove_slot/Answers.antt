@@ -1,5 +1,6 @@
 use Rattle.btree_item.proofs.Common.{◌≡◌, ℕ, ◌-◌, ◌<◌, ◌≤◌, List, refl, suc, length, take, set, get_or, sym, ap, ◌∙◌, arith, insert, refill}
 use Rattle.btree_item.proofs.StoreLemmas.{carried-left, inserted-last, length-stored, read-at, removed-others, removed-there, stored, stored-after}
+use borrow.Author.Rules.{scaled_Fits}
 use Rattle.btree_item.proofs.slots.remove_slot.Goals as goal
 
 -- what was taken from the last of n elements, inserted again
@@ -94,3 +95,13 @@ loop-i-smaller g c = omega (arith, c.loop-i-test.true)
 pub returns-clause-same : goal.returns-clause-same
 returns-clause-same g c =
     c.loop-i.invariant.same ∙ length-stored c.args.slots.now.items _ (c.args.len - 1) c.take-carried.new.self c.as_mut_slice.ensures.value
+
+pub offset_bounds-as_mut_slice-i : goal.offset_bounds-as_mut_slice-i
+offset_bounds-as_mut_slice-i g c =
+    scaled_Fits _ _ _ (rw c.as_mut_slice.ensures.value (omega (arith, c.requires.within, c.requires.fits))) c.as_mut_slice.type_inv.1
+
+pub offset_bounds-as_mut_slice-i-in-loop-i : goal.offset_bounds-as_mut_slice-i-in-loop-i
+offset_bounds-as_mut_slice-i-in-loop-i g c =
+    let long = length-stored c.args.slots.now.items _ (c.args.len - 1) c.take-carried.new.self c.as_mut_slice.ensures.value in
+    let same = c.loop-i.invariant.same in
+    scaled_Fits _ _ _ (rw c.as_mut_slice-in-loop-i.ensures.value (omega (arith, same, c.requires.fits, c.loop-i.invariant.within, c.loop-i-test.true, long))) c.as_mut_slice-in-loop-i.type_inv.1

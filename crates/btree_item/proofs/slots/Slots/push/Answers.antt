@@ -1,6 +1,7 @@
 use Rattle.btree_item.proofs.Common.{◌+◌, ◌++◌, ◌∷◌, [], Some, ◌∙◌, ap, take, arith, somes}
 use Rattle.btree_item.proofs.SomesLemmas.{AreSome-store, room-left, somes-store}
 use Rattle.btree_item.proofs.StoreLemmas.{length-stored, stored}
+use borrow.Author.Rules.{scaled_Fits}
 use Rattle.btree_item.proofs.slots.Slots.push.Goals as goal
 
 pub invariant_of-self : goal.invariant_of-self
@@ -32,3 +33,8 @@ pub overflow_add-self : goal.overflow_add-self
 overflow_add-self g c =
     let room = room-left _ _ _ c.args.self.now c.self.view_is c.self.invariant c.requires in
     omega (arith, room, c.self.invariant.0, g.N.fits)
+
+pub offset_bounds-as_mut_slice-self-inside : goal.offset_bounds-as_mut_slice-self-inside
+offset_bounds-as_mut_slice-self-inside g c =
+    let room = room-left _ _ _ c.args.self.now c.self.view_is c.self.invariant c.requires in
+    scaled_Fits _ _ _ (rw c.as_mut_slice.ensures.value room) c.as_mut_slice.type_inv.1
