@@ -1,6 +1,6 @@
-use Rattle.btree_item.proofs.Common.{◌∙◌, arith, rules, common_steps}
+use Rattle.btree_item.proofs.Common.{◌∙◌, arith, rules, common_steps, length-map}
 use Rattle.btree_item.proofs.KeyLemmas.{Less-from_is_lt, is_lt-from_partial}
-use Rattle.btree_item.proofs.MinLemmas.{AllAbove-from_key, IsAtMostBefore-from_key}
+use Rattle.btree_item.proofs.MinLemmas.{AllAbove-from_key, IsAtMostBefore-from_key, IsAtMostBefore-none, AllAbove-end}
 use Rattle.btree_item.proofs.searches.binary_search_min.Goals as goal
 
 pub loop-low-preserved-then-lt : goal.loop-low-preserved-then-lt
@@ -61,3 +61,8 @@ returns-else-low-eq0-clause-last g c = grind (arith, common_steps) steps 2000000
 
 pub returns-else-low-eq0-clause-none : goal.returns-else-low-eq0-clause-none
 returns-else-low-eq0-clause-none g c = search rules steps 200000
+
+pub loop-low-init : goal.loop-low-init
+loop-low-init g c =
+    let same = length-map c.args.slots.now g.T.Keyed.key_of in
+    record { ordered = omega arith; within = omega arith; at_most = IsAtMostBefore-none _ _; above = AllAbove-end _ _ _ (omega arith); }

@@ -1,5 +1,5 @@
-use Rattle.btree_item.proofs.Common.{◌∙◌, ap, length, take, arith, somes, insert}
-use Rattle.btree_item.proofs.SomesLemmas.{AreSome-insert, length-held, room-left, somes-insert, shown-length}
+use Rattle.btree_item.proofs.Common.{◌∙◌, ap, take, arith, somes, insert}
+use Rattle.btree_item.proofs.SomesLemmas.{AreSome-insert, room-left, somes-insert, shown-length}
 use Rattle.btree_item.proofs.slots.Slots.insert.Goals as goal
 
 pub invariant_of-self : goal.invariant_of-self
