@@ -7,7 +7,7 @@ use Rattle.std.specs.FinMap.{insert}
 use Rattle.btree_store.specs.Content.{content_from}
 use Rattle.btree_store.specs.ContentLaws.{same_content}
 use Rattle.btree_store.specs.SlotLaws.{content-insert, get-content}
-use Rattle.btree_more_stores.proofs.TableLemmas.{table-refill, table-remove}
+use Rattle.btree_more_stores.proofs.TableLemmas.{table-refill, table-vacant, table-remove}
 use Rattle.btree_more_stores.specs.Table.{IsTable}
 use Rattle.btree_more_stores.specs.Filled.{IsFilled, IsFull}
 
@@ -131,6 +131,9 @@ module _ {T : Type 0} (slots : List (Option T)) where
           table = subst (λ (n : ℕ). IsTable n (set slots id (Some v)) rest n (held + 1)) (sym long) (table-refill (length slots) slots rest id (length slots) held v table);
           spare = omega (arith, filled.spare);
         }
+
+    pub refilled-vacant : get_or slots id None ≡ None
+    refilled-vacant = table-vacant (length slots) slots rest id (length slots) held table
 
     pub refilled-inside : id < length slots
     refilled-inside =

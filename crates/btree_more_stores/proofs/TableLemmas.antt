@@ -35,6 +35,10 @@ module _ {T : Type 0} (places : ℕ) (slots : List (Option T)) where
   pub used_within : (k : ℕ) (v : T) → get_or slots k None ≡ Some v → k < length slots
   used_within k v some = grind (arith, get_or_past)
 
+  -- a used place is counted
+  pub table-used : (free : List ℕ) (id fresh held : ℕ) (v : T) → get_or slots id None ≡ Some v → IsTable places slots free fresh held → 0 < held
+  table-used free id fresh held v some table = omega (arith, table.counted, emptied id v (used_within id v some) some)
+
   used_fresh : (free : List ℕ) (fresh held : ℕ) → IsTable places slots free fresh held → (k : ℕ) (v : T) → get_or slots k None ≡ Some v → k < fresh
   used_fresh free fresh held table k v some = let far = table.beyond k in grind (arith, far)
 

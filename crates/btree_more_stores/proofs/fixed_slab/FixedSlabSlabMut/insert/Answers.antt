@@ -1,4 +1,4 @@
-use Rattle.std.proofs.Common.{◌≡◌, ℕ, ◌<◌, IsSome, None, inl, inr, arith}
+use Rattle.std.proofs.Common.{◌≡◌, ℕ, ◌<◌, ◌∷◌, [], length, length-append, IsSome, None, inl, inr, arith, refl}
 use Rattle.std.proofs.lemmas.Bool.{cases_lt, false≢true}
 use Rattle.btree_store.specs.SlotLaws.{get-content, content-fill}
 use Rattle.btree_more_stores.proofs.TableLemmas.{table-low, table-vacant, table-refill, table-fresh, table-full, table-holds}
@@ -11,10 +11,50 @@ no-more n some = elim (cases_lt 0 n) [
   | inr none ↦ omega arith
 ]
 
+pub pop-requires : goal.pop-requires
+pop-requires g c = let fits = c.well_formed in omega arith
+
 pub fill-requires : goal.fill-requires
 fill-requires g c =
     let table = rw c.in-Some.ensures.items at c.self.invariant in
     (let fits = c.well_formed in omega arith, (table-low _ _ _ _ _ _ table, table-vacant _ _ _ _ _ _ table))
+
+pub overflow_add-self : goal.overflow_add-self
+overflow_add-self g c =
+    let table = rw c.in-Some.ensures.items at c.self.invariant in
+    let long = length-append c.pop.new.self.items (c.in-Some.id ∷ []) in
+    omega (arith, table.total, table.within, long, g.N.fits)
+
+pub fill-requires-in-None : goal.fill-requires-in-None
+fill-requires-in-None g c =
+    let fits = c.well_formed in
+    (omega arith, (omega (arith, c.self.invariant.long, c.self.invariant.within, c.if-self.false), c.self.invariant.beyond _ (omega arith)))
+
+pub overflow_add-self-in-None : goal.overflow_add-self-in-None
+overflow_add-self-in-None g c = omega (arith, c.self.invariant.within, c.if-self.false, g.N.fits)
+
+pub overflow_add-self-in-None-2 : goal.overflow_add-self-in-None-2
+overflow_add-self-in-None-2 g c = omega (arith, c.self.invariant.total, c.self.invariant.within, c.if-self.false, g.N.fits)
+
+pub returns-then-self-clause-unchanged : goal.returns-then-self-clause-unchanged
+returns-then-self-clause-unchanged g c = rw (← c.self.view_is) refl
+
+pub returns-else-self-clause-number : goal.returns-else-self-clause-number
+returns-else-self-clause-number g c = omega (arith, c.self.invariant.within, c.if-self.false, g.N.fits)
+
+pub returns-else-self-clause-unused : goal.returns-else-self-clause-unused
+returns-else-self-clause-unused g c = rw (← c.self.view_is, get-content) (c.self.invariant.beyond _ (omega arith))
+
+pub returns-else-self-clause-stored : goal.returns-else-self-clause-stored
+returns-else-self-clause-stored g c =
+    let inside : c.self.inside.fresh < length c.self.inside.slots.items = omega (arith, c.self.invariant.long, c.self.invariant.within, c.if-self.false) in
+    rw (c.fill-in-None.ensures, ← c.self.view_is) (content-fill _ _ _ inside)
+
+pub returns-else-self-clause-uncounted : goal.returns-else-self-clause-uncounted
+returns-else-self-clause-uncounted g c = rw (← c.self.view_is) refl
+
+pub returns-in-Some-clause-uncounted : goal.returns-in-Some-clause-uncounted
+returns-in-Some-clause-uncounted g c = rw (← c.self.view_is) refl
 
 pub invariant_of-self : goal.invariant_of-self
 invariant_of-self g c =

@@ -1,7 +1,18 @@
-use Rattle.std.proofs.Common.{◌∷◌, [], Some, arith, inr, length-append}
-use Rattle.btree_store.specs.SlotLaws.{content-fill}
-use Rattle.btree_more_stores.proofs.FilledLemmas.{content-push, filled-full, filled-refill, refilled-inside}
+use Rattle.std.proofs.Common.{◌∷◌, [], Some, arith, inl, inr, length-append, length-set}
+use Rattle.btree_store.specs.SlotLaws.{content-fill, get-content}
+use Rattle.btree_more_stores.proofs.FilledLemmas.{content-push, filled-full, filled-refill, free-past, refilled-inside, refilled-vacant}
 use Rattle.btree_more_stores.proofs.slot_store.SlotStoreSlabMut.insert.Goals as goal
+
+pub fill-requires-clause-inside : goal.fill-requires-clause-inside
+fill-requires-clause-inside g c =
+    let inside = refilled-inside _ _ _ _ (rw c.unwrap-id.ensures at c.pop.ensures.items) _ _ c.self.invariant in
+    omega (arith, inside)
+
+pub fill-requires-clause-vacant : goal.fill-requires-clause-vacant
+fill-requires-clause-vacant g c = refilled-vacant _ _ _ _ (rw c.unwrap-id.ensures at c.pop.ensures.items) _ _ c.self.invariant
+
+pub overflow_add-self : goal.overflow_add-self
+overflow_add-self g c = omega (arith, c.if-has_free.true, c.len-end.type_inv)
 
 pub invariant_of-self : goal.invariant_of-self
 invariant_of-self g c =
@@ -13,9 +24,21 @@ returns-then-has_free-clause-number g c =
     let fits = c.well_formed in
     omega arith
 
+pub returns-then-has_free-clause-unused : goal.returns-then-has_free-clause-unused
+returns-then-has_free-clause-unused g c =
+    let vacant = refilled-vacant _ _ _ _ (rw c.unwrap-id.ensures at c.pop.ensures.items) _ _ c.self.invariant in
+    rw (← c.self.view_is, get-content) vacant
+
+pub returns-then-has_free-clause-reuses : goal.returns-then-has_free-clause-reuses
+returns-then-has_free-clause-reuses g c =
+    rw (c.fill.ensures, ← c.self.view_is) (inl (length-set c.self.inside.slots.items c.unwrap-id.result (Some c.args.value)))
+
 pub returns-then-has_free-clause-stored : goal.returns-then-has_free-clause-stored
 returns-then-has_free-clause-stored g c =
     rw (c.fill.ensures, ← c.self.view_is) (content-fill _ _ _ (refilled-inside _ _ _ _ (rw c.unwrap-id.ensures at c.pop.ensures.items) _ _ c.self.invariant))
+
+pub returns-clause-unused : goal.returns-clause-unused
+returns-clause-unused g c = rw (← c.self.view_is, get-content) (free-past c.self.inside.slots.items c.len-end.result (omega arith))
 
 pub returns-clause-stored : goal.returns-clause-stored
 returns-clause-stored g c =
