@@ -65,4 +65,4 @@ returns-else-low-eq0-clause-none g c = search rules steps 200000
 pub loop-low-init : goal.loop-low-init
 loop-low-init g c =
     let same = length-map c.args.slots.now g.T.Keyed.key_of in
-    record { ordered = omega arith; within = omega arith; at_most = IsAtMostBefore-none _ _; above = AllAbove-end _ _ _ (omega arith); }
+    record { ordered = omega arith; within = omega arith; at_most = IsAtMostBefore-none _ _; above = AllAbove-end _ _ _ (omega arith) }
