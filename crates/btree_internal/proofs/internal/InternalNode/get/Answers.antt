@@ -1,7 +1,9 @@
-use Rattle.btree_internal.proofs.Common.{Some, Ok, ap, sym, ◌∙◌, arith, rules, internal_view, common_steps}
+use Rattle.btree_internal.proofs.Common.{Some, Ok, ap, sym, ◌∙◌, arith, rules, internal_view, common_steps, length}
 use Rattle.btree_item.proofs.PairLemmas.{before-from_Err}
 use Rattle.btree_internal.proofs.BranchLemmas.{there}
 use Rattle.btree_internal.proofs.LookUpLemmas.{look_up-Ok, look_up-Err}
+use Rattle.btree_internal.proofs.InternalSizes.{fits-slots}
+use Rattle.btree_internal.proofs.ChangeLemmas.{length-pairs}
 use Rattle.btree_internal.proofs.internal.InternalNode.get.Goals as goal
 
 pub returns-in-Ok : goal.returns-in-Ok
@@ -17,7 +19,10 @@ pub find-requires : goal.find-requires
 find-requires g c = search rules steps 200000
 
 pub branch_at-requires : goal.branch_at-requires
-branch_at-requires g c = grind (arith, common_steps) steps 2000000
+branch_at-requires g c =
+    let long = ap (λ n. length n.branches) c.self.view_is in
+    let mine = length-pairs c.self.inside.branches in
+    (search fits-slots, omega (arith, long, mine, c.in-Ok.ensures.within))
 
 pub value-requires : goal.value-requires
 value-requires g c κs = search rules steps 200000

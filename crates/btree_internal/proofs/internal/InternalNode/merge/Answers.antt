@@ -1,6 +1,8 @@
 use Rattle.btree_internal.proofs.BranchLemmas.{remove-view, there}
+use Rattle.btree_internal.proofs.InternalSizes.{fits-slots}
+use Rattle.btree_internal.proofs.ChangeLemmas.{length-pairs}
 use Rattle.btree_internal.proofs.internal.InternalNode.merge.Goals as goal
-use Rattle.btree_internal.proofs.Common.{common_steps, arith, rules}
+use Rattle.btree_internal.proofs.Common.{arith, rules, ap, length}
 
 pub returns-clause-item : goal.returns-clause-item
 returns-clause-item g c = there c.args.self.now _ c.self.inside.first c.self.inside.branches c.self.view_is c.args.left c.remove-item.result c.remove-item.ensures.answer
@@ -15,7 +17,10 @@ pub child_id-right_id-requires : goal.child_id-right_id-requires
 child_id-right_id-requires g c = omega arith
 
 pub remove-item-requires : goal.remove-item-requires
-remove-item-requires g c = grind (arith, common_steps) steps 2000000
+remove-item-requires g c =
+    let long = ap (λ n. length n.branches) c.self.view_is in
+    let mine = length-pairs c.self.inside.branches in
+    (search fits-slots, omega (arith, long, mine, c.requires.next, c.requires.within))
 
 pub balance-requires : goal.balance-requires
 balance-requires g c = omega arith

@@ -1,4 +1,6 @@
-use Rattle.btree_internal.proofs.Common.{common_steps, arith, rules}
+use Rattle.btree_internal.proofs.Common.{arith, rules, ap, length, ◌∙◌, [], ◌++◌, ◌∷◌, internal, map-append, branch_pair}
+use Rattle.btree_internal.proofs.InternalSizes.{fits-slots}
+use Rattle.btree_internal.proofs.ChangeLemmas.{length-pairs, pairs}
 use Rattle.btree_internal.proofs.internal.InternalNode.push_right.Goals as goal
 
 pub item_count-requires : goal.item_count-requires
@@ -8,10 +10,19 @@ pub offset_at-offset-requires : goal.offset_at-offset-requires
 offset_at-offset-requires g c = search rules steps 200000
 
 pub push-requires : goal.push-requires
-push-requires g c = grind (arith, common_steps) steps 2000000
+push-requires g c =
+    let long = ap (λ n. length n.branches) c.self.view_is in
+    let mine = length-pairs c.self.inside.branches in
+    (search fits-slots, omega (arith, long, mine, c.requires))
 
 pub returns-clause-offset : goal.returns-clause-offset
 returns-clause-offset g c = search rules steps 200000
 
 pub returns-clause-after : goal.returns-clause-after
-returns-clause-after g c = grind (arith, common_steps) steps 2000000
+returns-clause-after g c =
+    let parent = ap (λ n. n.parent) c.self.view_is in
+    let first = ap (λ n. n.first) c.self.view_is in
+    let mine = ap (λ n. n.branches) c.self.view_is in
+    let all = ap pairs c.push.ensures ∙ map-append branch_pair c.self.inside.branches _ in
+    let both = all ∙ (λ j. mine j ++ (c.args.item, c.args.child) ∷ []) in
+    λ j. internal (parent j) (first j) (both j)

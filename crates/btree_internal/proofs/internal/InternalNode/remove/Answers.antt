@@ -1,5 +1,7 @@
-use Rattle.btree_internal.proofs.Common.{sym, arith, rules, common_steps}
+use Rattle.btree_internal.proofs.Common.{sym, arith, rules, common_steps, ap, length}
 use Rattle.btree_internal.proofs.BranchLemmas.{child_behind, remove-view, there}
+use Rattle.btree_internal.proofs.InternalSizes.{fits-slots}
+use Rattle.btree_internal.proofs.ChangeLemmas.{length-pairs}
 use Rattle.btree_internal.proofs.internal.InternalNode.remove.Goals as goal
 
 pub returns-clause-item : goal.returns-clause-item
@@ -21,7 +23,11 @@ pub child_id-left-requires : goal.child_id-left-requires
 child_id-left-requires g c = grind (arith, common_steps) steps 2000000
 
 pub remove-item-requires : goal.remove-item-requires
-remove-item-requires g c = grind (arith, common_steps) steps 2000000
+remove-item-requires g c =
+    let long = ap (λ n. length n.branches) c.self.view_is in
+    let mine = length-pairs c.self.inside.branches in
+    let low = rw c.unwrap-index.ensures.value at c.requires in
+    (search fits-slots, omega (arith, long, mine, low))
 
 pub returns-clause-left : goal.returns-clause-left
 returns-clause-left g c = search rules steps 200000

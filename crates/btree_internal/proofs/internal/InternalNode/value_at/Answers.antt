@@ -1,5 +1,6 @@
-use Rattle.btree_internal.proofs.Common.{Some, inl, ap, sym, ◌∙◌, arith, rules, option_map, common_steps}
-use Rattle.btree_internal.proofs.BranchLemmas.{there, value-at}
+use Rattle.btree_internal.proofs.Common.{Some, inl, ap, sym, ◌∙◌, arith, rules, option_map, common_steps, None, refl}
+use Rattle.btree_internal.proofs.BranchLemmas.{there, value-at, item-read}
+use mathlib.Core.Logic.{inr}
 use Rattle.btree_internal.proofs.internal.InternalNode.value_at.Goals as goal
 
 pub returns-in-Some : goal.returns-in-Some
@@ -24,3 +25,8 @@ invariant_of-self-lent g c = search rules steps 200000
 
 pub invariant_of-self-lent-in-None : goal.invariant_of-self-lent-in-None
 invariant_of-self-lent-in-None g c = search rules steps 200000
+
+pub returns-in-None : goal.returns-in-None
+returns-in-None g c =
+    let none = item-read c.args.self.now _ c.self.inside.first c.self.inside.branches c.self.view_is c.args.index None None c.in-None.ensures.value refl in
+    (ap inr c.self.view_is, record { writes_back = tt; value = ap (option_map (λ x. x.1)) none })
