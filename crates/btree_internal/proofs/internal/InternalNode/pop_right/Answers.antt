@@ -1,6 +1,6 @@
-use Rattle.btree_internal.proofs.Common.{sym, ◌∙◌, arith, rules, refl, common_steps, ◌≡◌, ℕ, List, [], ◌∷◌, Option, slice_get}
+use Rattle.btree_internal.proofs.Common.{sym, ◌∙◌, arith, rules, refl, common_steps}
 use Rattle.btree_internal.proofs.BranchLemmas.{pop_right-view, long_as_items}
-use Rattle.std.proofs.Common.{◌<◌, zero, suc, length, IsSome}
+use Rattle.btree_view.proofs.Cuts.{is_some-within}
 use Rattle.btree_internal.proofs.internal.InternalNode.pop_right.Goals as goal
 
 pub returns-clause-taken : goal.returns-clause-taken
@@ -39,13 +39,8 @@ returns-clause-offset g c = search rules steps 200000
 pub returns-clause-short : goal.returns-clause-short
 returns-clause-short g c = search rules steps 200000
 
-is_there : {X : Type 0} (o : Option X) (xs : List X) (i : ℕ) → o ≡ slice_get xs i → i < length xs → IsSome o
-is_there o [] i e within = absurd (omega (arith, within))
-is_there o (x ∷ xs) zero e within = rw e refl
-is_there o (x ∷ xs) (suc i) e within = is_there o xs i e (omega (arith, within))
-
 pub unwrap-item-requires : goal.unwrap-item-requires
 unwrap-item-requires g c =
     let long = long_as_items c.args.self.now _ c.self.inside.first c.self.inside.branches c.self.view_is in
     let spare = c.if-not-has_spare.ensures.0 refl in
-    is_there c.pop.result c.self.inside.branches _ c.pop.ensures.answer (omega (arith, long, spare))
+    rw c.pop.ensures.answer (is_some-within c.self.inside.branches _ (omega (arith, long, spare)))
