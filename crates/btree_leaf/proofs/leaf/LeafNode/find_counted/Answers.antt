@@ -15,3 +15,9 @@ returns-clause-within g c = search rules steps 200000
 
 pub returns-clause-fits : goal.returns-clause-fits
 returns-clause-fits g c = grind (arith, common_steps) steps 300000
+
+pub returns-clause-ticks : goal.returns-clause-ticks
+returns-clause-ticks g c = c.place_counted.ensures.ticks
+
+pub returns-clause-counted : goal.returns-clause-counted
+returns-clause-counted g c = rw c.items.ensures at c.place_counted.ensures.counted
