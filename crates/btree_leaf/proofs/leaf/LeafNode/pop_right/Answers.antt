@@ -1,5 +1,6 @@
-use Rattle.btree_leaf.proofs.Common.{ap, sym, ◌∙◌, arith, rules, leaf_view, node_of, leaf, common_steps}
-use Rattle.btree_view.proofs.Cuts.{last_out}
+use Rattle.btree_leaf.proofs.Common.{ap, sym, ◌∙◌, arith, rules, leaf_view, node_of, leaf, common_steps, length}
+use Rattle.btree_view.proofs.Cuts.{last_out, is_some-within}
+use Rattle.std.proofs.Common.{refl}
 use Rattle.btree_leaf.proofs.leaf.LeafNode.pop_right.Goals as goal
 
 pub returns-clause-taken : goal.returns-clause-taken
@@ -40,3 +41,9 @@ returns-clause-offset g c = search rules steps 200000
 
 pub returns-clause-short : goal.returns-clause-short
 returns-clause-short g c = search rules steps 200000
+
+pub unwrap-item-requires : goal.unwrap-item-requires
+unwrap-item-requires g c =
+    let long = ap (λ l. length l.items) c.self.view_is in
+    let spare = c.if-not-has_spare.ensures.0 refl in
+    rw c.pop.ensures.answer (is_some-within c.self.inside.items _ (omega (arith, long, spare)))
