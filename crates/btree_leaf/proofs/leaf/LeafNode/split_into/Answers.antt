@@ -1,6 +1,6 @@
 use Rattle.btree_leaf.proofs.Common.{◌++◌, length, arith, ap, sym, ◌∙◌, rules}
 use Rattle.std.proofs.Common.{drop}
-use Rattle.btree_view.proofs.Cuts.{parts_of_split, front_of_split, back_of_split}
+use Rattle.btree_view.proofs.Cuts.{parts_of_split, front_of_split, back_of_split, last_is_there}
 use Rattle.btree_leaf.proofs.LeafSplit.{IsSplit-leaf}
 use Rattle.btree_leaf.proofs.leaf.LeafNode.split_into.Goals as goal
 
@@ -45,3 +45,8 @@ pop-requires g c = search rules steps 200000
 
 pub len-requires : goal.len-requires
 len-requires g c = search rules steps 200000
+
+pub unwrap-median-requires : goal.unwrap-median-requires
+unwrap-median-requires g c =
+    let long = ap (λ l. length l.items) c.self.view_is in
+    last_is_there c.self.inside.items c.move_tail.new.self 4 _ (omega (arith, long, c.requires.over)) c.move_tail.ensures.left c.pop.ensures.answer
