@@ -1,6 +1,6 @@
 use Rattle.btree_valid.proofs.Common.{◌+◌, Some, option_copied, subst, sym, view_of, items_of, refl}
 use Rattle.btree_valid.specs.Sizes.{IsAbove}
-use Rattle.btree_valid.proofs.NodeLemmas.{IsOnWay, way-above, way-end, way-next}
+use Rattle.btree_valid.proofs.NodeLemmas.{IsOnWay, way-above, way-end, way-next, way-start}
 use Rattle.btree_valid.proofs.off_by_one.ascends_from.Goals as goal
 
 pub returns-then-not-is_above : goal.returns-then-not-is_above
@@ -21,3 +21,6 @@ returns g c = (
   λ yes. way-end g.K.Ord.cmp (items_of (view_of c.args.node.now)) (option_copied c.args.min) c.loop-item.index (option_copied c.loop-item.last) c.loop-item.invariant c.in_default.ensures.item,
   λ up. refl,
 )
+
+pub loop-item-init : goal.loop-item-init
+loop-item-init g c = way-start _ _ _

@@ -25,3 +25,9 @@ returns g c = (
       (omega arith, omega arith) (c.if-not-ascends_from.ensures.0 refl) (c.if-not-ends_below.ensures.0 refl),
   λ p. refl,
 )
+
+pub returns-then-count-least_items : goal.returns-then-count-least_items
+returns-then-count-least_items g c = (λ ok. absurd (cc), λ p. absurd (let enough = p.sized.0 in omega arith))
+
+pub returns-then-count-most_items : goal.returns-then-count-most_items
+returns-then-count-most_items g c = (λ ok. absurd (cc), λ p. absurd (let enough = p.sized.1 in omega arith))
