@@ -1,18 +1,16 @@
-use Rattle.btree_valid.proofs.Common.{arith, refl, rules, view_of}
+use Rattle.std.proofs.Common.{Fits, w64}
+use Rattle.btree_valid.proofs.Common.{◌+◌, ◌<◌, ℕ, arith, refl, view_of}
 use Rattle.btree_valid.proofs.ChildLemmas.{child-within}
 use Rattle.btree_valid.proofs.faults.below.Goals as goal
+
+next_fits : (n : ℕ) → n < 32 → Fits w64 (n + 1)
+next_fits n low = omega arith
 
 pub separators-requires : goal.separators-requires
 separators-requires g c = (c.requires.size, child-within (view_of c.args.node.now) c.args.index c.args.child c.requires.within)
 
 pub overflow_add-result : goal.overflow_add-result
-overflow_add-result g c = let low = c.requires.low in omega arith
-
-pub nearest-requires : goal.nearest-requires
-nearest-requires g c κs = search rules
-
-pub nearest-requires-2 : goal.nearest-requires-2
-nearest-requires-2 g c κs = search rules
+overflow_add-result g c = next_fits _ c.requires.low
 
 pub returns-clause-level : goal.returns-clause-level
 returns-clause-level g c = refl
@@ -22,9 +20,3 @@ returns-clause-parent g c = refl
 
 pub returns-clause-id : goal.returns-clause-id
 returns-clause-id g c = refl
-
-pub returns-clause-min : goal.returns-clause-min
-returns-clause-min g c = search rules
-
-pub returns-clause-max : goal.returns-clause-max
-returns-clause-max g c = search rules

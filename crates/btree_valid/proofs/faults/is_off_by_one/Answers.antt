@@ -1,4 +1,4 @@
-use Rattle.btree_valid.proofs.Common.{◌≡◌, ◌∙◌, Some, ap, refl, rules, sym}
+use Rattle.btree_valid.proofs.Common.{◌≡◌, ◌∙◌, Some, ap, refl, sym}
 use Rattle.std.proofs.Common.{eqb, not}
 use Rattle.std.specs.Option.{option_eq}
 use Rattle.btree_view.proofs.CheckLemmas.{same-parent}
@@ -28,14 +28,5 @@ returns-in-Err g c = (
       absurd (cc),
 )
 
-pub get-requires : goal.get-requires
-get-requires g c = search rules
-
-pub len-requires : goal.len-requires
-len-requires g c κs = search rules
-
 pub check_under-requires : goal.check_under-requires
 check_under-requires g c = c.requires
-
-pub eq-requires : goal.eq-requires
-eq-requires g c κs = search rules
