@@ -20,3 +20,9 @@ returns-in-Some-clause-verdict g c = λ none. absurd (clash _ (sym none ∙ c.in
 
 pub returns-in-None-clause-verdict : goal.returns-in-None-clause-verdict
 returns-in-None-clause-verdict g c = λ none. c.validate.ensures
+
+pub check_off_by_one-requires : goal.check_off_by_one-requires
+check_off_by_one-requires g c = search
+
+pub validate-requires : goal.validate-requires
+validate-requires g c = search

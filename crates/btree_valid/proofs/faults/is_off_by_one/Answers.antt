@@ -30,3 +30,6 @@ returns-in-Err g c = (
 
 pub check_under-requires : goal.check_under-requires
 check_under-requires g c = c.requires
+
+pub get-requires : goal.get-requires
+get-requires g c = search

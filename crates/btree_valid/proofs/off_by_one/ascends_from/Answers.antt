@@ -24,3 +24,6 @@ returns g c = (
 
 pub loop-item-init : goal.loop-item-init
 loop-item-init g c = way-start _ _ _
+
+pub item_at_index-requires : goal.item_at_index-requires
+item_at_index-requires g c = search

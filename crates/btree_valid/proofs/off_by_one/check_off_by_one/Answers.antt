@@ -31,3 +31,18 @@ returns-then-count-least_items g c = (λ ok. absurd (cc), λ p. absurd (let enou
 
 pub returns-then-count-most_items : goal.returns-then-count-most_items
 returns-then-count-most_items g c = (λ ok. absurd (cc), λ p. absurd (let enough = p.sized.1 in omega arith))
+
+pub parent-requires : goal.parent-requires
+parent-requires g c = search
+
+pub item_count-count-requires : goal.item_count-count-requires
+item_count-count-requires g c = search
+
+pub most_items-requires : goal.most_items-requires
+most_items-requires g c = search
+
+pub ascends_from-requires : goal.ascends_from-requires
+ascends_from-requires g c = search
+
+pub ends_below-requires : goal.ends_below-requires
+ends_below-requires g c = search

@@ -14,3 +14,9 @@ pub returns-in-None : goal.returns-in-None
 returns-in-None g c =
     let at = sym c.item_at_index.ensures.item ∙ ap (slice_get (items_of (view_of c.args.node.now))) c.saturating_sub.ensures in
     EndsBelow-none g.K.Ord.cmp (λ x. x.0) (items_of (view_of c.args.node.now)) c.item_count.result _ _ _ c.item_count.ensures.value at (ap option_copied c.in-Some.is) (ap option_copied c.in-None.is)
+
+pub item_count-requires : goal.item_count-requires
+item_count-requires g c = search
+
+pub item_at_index-requires : goal.item_at_index-requires
+item_at_index-requires g c = search
