@@ -1,5 +1,5 @@
 use Rattle.std.proofs.Common.{Fits, w64}
-use Rattle.btree_valid.proofs.Common.{◌+◌, ◌<◌, ℕ, arith, refl, view_of}
+use Rattle.btree_valid.proofs.Common.{◌∙◌, ◌+◌, ◌<◌, ℕ, ap, arith, nearest_of, option_copied, refl, view_of}
 use Rattle.btree_valid.proofs.ChildLemmas.{child-within}
 use Rattle.btree_valid.proofs.faults.below.Goals as goal
 
@@ -20,3 +20,9 @@ returns-clause-parent g c = refl
 
 pub returns-clause-id : goal.returns-clause-id
 returns-clause-id g c = refl
+
+pub returns-clause-min : goal.returns-clause-min
+returns-clause-min g c = c.nearest.ensures ∙ ap (λ o. nearest_of o (option_copied c.args.spot.now.min)) c.separators.ensures.before
+
+pub returns-clause-max : goal.returns-clause-max
+returns-clause-max g c = c.nearest-2.ensures ∙ ap (λ o. nearest_of o (option_copied c.args.spot.now.max)) c.separators.ensures.after
