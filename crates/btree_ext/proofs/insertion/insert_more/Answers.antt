@@ -1,4 +1,4 @@
-use Rattle.btree_ext.proofs.Common.{[], refl, sym, ◌∙◌, view}
+use Rattle.btree_ext.proofs.Common.{[], arith, refl, sym, ◌∙◌, same-len, view}
 use Rattle.btree_raw.proofs.NeedLemmas.{need-split_need}
 use Rattle.btree_ext.proofs.MoreLemmas.{can-add-first, leaf-used, more-inserted, none-claimed, unsplit}
 use Rattle.btree_ext.proofs.insertion.insert_more.Goals as goal
@@ -40,3 +40,18 @@ insert_and_split-requires g c = record {
   enough = rw (← c.addr.view_is) c.need_above-count.ensures.value;
   few = c.need_above-count.ensures.few;
 }
+
+pub overflow_add-len : goal.overflow_add-len
+overflow_add-len g c =
+    let same = same-len c.in-Ok.ensures.added.rest in
+    let room = c.requires.room in
+    rw c.len.ensures (omega arith)
+
+pub returns-in-Err-clause-inserted : goal.returns-in-Err-clause-inserted
+returns-in-Err-clause-inserted g c = rw (c.in-Err.ensures.unchanged, c.in-Err.ensures.returned) at c.insert_and_split.ensures.inserted
+
+pub returns-in-Err-clause-returned : goal.returns-in-Err-clause-returned
+returns-in-Err-clause-returned g c = rw c.in-Err.ensures.returned at c.insert_and_split.ensures.returned
+
+pub returns-in-Err-clause-refused : goal.returns-in-Err-clause-refused
+returns-in-Err-clause-refused g c = rw c.in-Err.ensures.unchanged at c.insert_and_split.ensures.refused
