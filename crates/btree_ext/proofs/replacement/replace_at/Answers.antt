@@ -21,3 +21,6 @@ pub returns-clause-exchanged : goal.returns-clause-exchanged
 returns-clause-exchanged g c =
     rw (← c.addr.view_is) (pair-exchanged g.K.Ord.cmp g.met.K.Ord.total c.args.tree.now _ (view c.addr.inside) c.in-Some.item.now c.args.key c.args.value c.requires.tree (rw (← c.addr.view_is) at c.requires.replaces)
     (exchanges-at c.args.tree.now (view c.addr.inside) c.node_mut.result.now c.node_mut.ensures.value c.in-Some.item.now (c.args.key, c.args.value) c.set.new.self c.set.ensures.after c.in-Some.ensures.value))
+
+pub item_mut-requires : goal.item_mut-requires
+item_mut-requires g c = c.tell_fits.ensures

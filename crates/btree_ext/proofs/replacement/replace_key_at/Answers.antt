@@ -16,3 +16,6 @@ returns g c =
     let old = c.in-Some.item.now in
     rw (← c.addr.view_is, c.set_key.ensures.answer) (key-exchanged g.K.Ord.cmp g.met.K.Ord.total c.args.tree.now _ (view c.addr.inside) old c.args.key c.requires.tree (rw (← c.addr.view_is) at c.requires.replaces)
     (exchanges-at c.args.tree.now (view c.addr.inside) c.node_mut.result.now c.node_mut.ensures.value old (c.args.key, old.1) c.set_key.new.self c.set_key.ensures.after c.in-Some.ensures.value))
+
+pub item_mut-requires : goal.item_mut-requires
+item_mut-requires g c = c.tell_fits.ensures
