@@ -11,3 +11,6 @@ returns-in-Some g c = front-down g.K.Ord.cmp g.met.K.Ord.total c.args.tree.now c
 
 pub returns : goal.returns
 returns g c = front-along g.K.Ord.cmp g.met.K.Ord.total c.args.tree.now c.requires.tree c.args.id c.args.node.now c.requires.node c.args.offset c.requires.within (sym c.in_default.is ∙ c.child_id_opt.ensures) c.slot_before-2.result c.slot_before-2.ensures
+
+pub child_id_opt-requires : goal.child_id_opt-requires
+child_id_opt-requires g c = c.tell_fits.ensures
