@@ -38,3 +38,12 @@ returns-in-Ok-clause-bounded g c = λ within.
     let same = same-len c.in-Ok.ensures.added.rest in
     let kept = ap (λ (k : Kept). k.limit) (same-kept c.in-Ok.ensures.added.rest) in
     rw (c.set_len.ensures, c.len-in-Ok.ensures) (omega arith)
+
+pub overflow_add-len : goal.overflow_add-len
+overflow_add-len g c =
+    let low = c.if-limit-len.false in
+    let limit = c.limit.ensures in
+    let fits = c.limit.type_inv in
+    let len = c.len.ensures in
+    let same = same-len c.in-Ok.ensures.added.rest in
+    rw c.len-in-Ok.ensures (omega arith)
