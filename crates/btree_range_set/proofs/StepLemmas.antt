@@ -1,5 +1,6 @@
 -- The steps of an insertion and of a removal on the list of ranges.
 use Rattle.btree_range_set.proofs.Common.{◌≡◌, ◌≤◌, ◌<◌, ◌∙◌, ℕ, suc, max, Bool, true, false, not, ◌&&◌, ◌||◌, List, length, set, slice_get, Some, refl, sym, ap, arith, ◌⊎◌, inl, inr, cases_Bool, cases_lt, length-set, length-remove, same_Some, slice_get_within, insert, remove, within-from, within-high, within-low, EndsBefore, StartsAfter, AreRuns, has_number, is_within, within-below, within-above}
+use Rattle.std.proofs.lemmas.Bool.{or_left}
 use Rattle.btree_range_set.specs.Ranges.{IsDifference, IsUnion}
 use Rattle.btree_range_set.proofs.ListLemmas.{get-removed, get-removed-below, get-set, get-set-other}
 use Rattle.btree_range_set.proofs.RunLemmas.{has-none, has-put, has-set, has-taken, next-apart, run-at, runs-put, runs-set, runs-taken}
