@@ -76,6 +76,9 @@ module _ {K V : Type 0} where
     pub branches_are : map branch_pair bs ≡ node.branches
     branches_are = ap (λ n. n.branches) is
 
+    pub long_as_branches : length bs ≡ length node.branches
+    long_as_branches = sym (length-map bs branch_pair) ∙ ap length branches_are
+
     pub items_are : map (λ b. b.item) bs ≡ items_of (internal_view node)
     items_are = sym (items-pairs bs) ∙ ap (map (λ b. b.0)) branches_are
 

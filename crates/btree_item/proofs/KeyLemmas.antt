@@ -6,7 +6,7 @@ use Rattle.std.specs.Ordering.{partial_lt}
 use Rattle.std.specs.Cmp.{Agrees}
 use Rattle.std.specs.List.{AllByRecursion, count_by, list_any}
 use Rattle.std.specs.List.Sorted.{IsStrictlySortedBy}
-use Rattle.std.proofs.lemmas.Bool.{cases_lt}
+use Rattle.std.proofs.lemmas.Bool.{cases_lt, or_right}
 use Rattle.std.proofs.lemmas.Map.Keys.{sorted_head}
 use Rattle.std.proofs.lemmas.List.Sums.{sum_by-cons}
 use Rattle.btree_item.specs.Keys.{Cuts, key_place, IsNotBelowAt, IsFirstNotBelow}
@@ -20,10 +20,6 @@ Less-from_is_lt Greater h = absurd (cc)
 -- what `<` returns, by the order that it agrees with
 pub is_lt-from_partial : {K : Type 0} {partial : K → K → Option Ordering} {cmp : K → K → Ordering} → Agrees partial cmp → (x y : K) (r : Bool) → r ≡ partial_lt partial x y → is_lt (cmp x y) ≡ r
 is_lt-from_partial agrees x y r answer = sym (answer ∙ ap (is_some_and is_lt) (agrees x y))
-
-or_true : (b : Bool) → (b || true) ≡ true
-or_true true = refl
-or_true false = refl
 
 module _ {X : Type 0} (test : X → Bool) where
   -- of a first element and others, those that pass a test are counted one by one
@@ -160,7 +156,7 @@ module _ {K Q : Type 0} {cmp : K → Q → Ordering} where
     pub has_key-here : (k : Q) (q : K) (i : ℕ) (keys : List K) → slice_get keys i ≡ Some q → is_eq (cmp q k) ≡ true → has_key cmp k keys ≡ true
     has_key-here k q i [] at equal = absurd (cc)
     has_key-here k q zero (x ∷ keys) at equal = let same : x ≡ q = cc in rw (same, equal) refl
-    has_key-here k q (suc i) (x ∷ keys) at equal = let rest = has_key-here k q i keys at equal in rw rest (or_true (is_eq (cmp x k)))
+    has_key-here k q (suc i) (x ∷ keys) at equal = let rest = has_key-here k q i keys at equal in rw rest (or_right (is_eq (cmp x k)) true refl)
 
     pub has_key-gap : (k : Q) (i : ℕ) (keys : List K) → IsStrictlySortedBy ord keys → IsFirstNotBelow cmp k i keys → ((q : K) → slice_get keys i ≡ Some q → is_eq (cmp q k) ≡ false) → has_key cmp k keys ≡ false
     has_key-gap k i [] up first apart = refl

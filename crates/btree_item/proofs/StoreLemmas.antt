@@ -1,5 +1,8 @@
--- Stores into a list, of which the first elements are in use.
-use Rattle.btree_item.proofs.Common.{◌≡◌, ℕ, ◌+◌, ◌<◌, ◌≤◌, List, [], ◌∷◌, ◌++◌, Some, length, take, drop, set, get_or, zero, suc, refl, sym, ◌∙◌, ap, arith, slice_get, insert, refill, remove}
+-- Stores into a list, of which the first elements are in use, and what is read of it.
+use Rattle.btree_item.proofs.Common.{◌≡◌, ℕ, ◌+◌, ◌<◌, ◌≤◌, List, [], ◌∷◌, ◌++◌, Option, Some, None, IsSome, length, take, drop, set, get_or, zero, suc, refl, sym, ◌∙◌, ap, arith, slice_get, insert, refill, remove}
+use Rattle.std.proofs.Common.{Bor}
+use Rattle.std.specs.Option.{option_copied}
+use Rattle.std.specs.Prelude.{is_some}
 use Rattle.std.proofs.lemmas.List.{length-set, length-take-le, take-set, take-set-le, take_more_set, append_assoc}
 use Rattle.btree_item.proofs.PairEdits.{remove-insert, slice_get-insert}
 
@@ -30,6 +33,17 @@ module _ {X : Type 0} where
   take-take (suc m) zero xs within = absurd (omega (arith, within))
   take-take (suc m) (suc n) [] within = refl
   take-take (suc m) (suc n) (x ∷ xs) within = ap (λ l. x ∷ l) (take-take m n xs (omega (arith, within)))
+
+  -- an index of the list has an element
+  pub is_some-within : (xs : List X) (i : ℕ) → i < length xs → IsSome (slice_get xs i)
+  is_some-within [] i within = absurd (omega (arith, within))
+  is_some-within (x ∷ xs) zero within = refl
+  is_some-within (x ∷ xs) (suc i) within = is_some-within xs i (omega (arith, within))
+
+  -- and so a reference to it is there
+  pub is_some-copied : (o : Option (Bor X)) (xs : List X) (i : ℕ) → option_copied o ≡ slice_get xs i → i < length xs → IsSome o
+  is_some-copied (Some x) xs i at within = refl
+  is_some-copied None xs i at within = ap is_some at ∙ is_some-within xs i within
 
   -- what is read through a `&mut` to all elements, whatever stands for an element that is not there
   pub read-at : (xs ys : List X) (i : ℕ) (blank r : X) → ys ≡ xs → i < length xs → r ≡ get_or ys i blank → r ≡ get_or xs i r

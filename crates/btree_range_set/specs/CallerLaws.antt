@@ -39,6 +39,7 @@ pub within-above : (r : ℕ × ℕ) (n : ℕ) → r.1 ≤ n → is_within r n �
 within-above r n above = within-not r n (λ is. omega (arith, above, within-high r n is))
 
 -- ---- insertions
+-- a test that fails adds nothing to another
 pub or_false : (b c : Bool) → c ≡ false → (b || c) ≡ b
 or_false true c fails = refl
 or_false false c fails = fails

@@ -58,11 +58,6 @@ module _ {T : Type 0} where
       last_parts (y ∷ ys) (length (y ∷ ys) - 1) x (omega arith) (sym at) ∙ ap (λ l. l ++ x ∷ []) (sym is)
 
   -- a list has an element at each index below its length
-  pub is_some-within : (xs : List T) (n : ℕ) → n < length xs → IsSome (slice_get xs n)
-  is_some-within [] n within = absurd (omega arith)
-  is_some-within (x ∷ xs) zero within = refl
-  is_some-within (x ∷ xs) (suc n) within = is_some-within xs n (omega arith)
-
   -- a list without its last element is one with the element at the last index removed
   pub take-last : (xs : List T) (n : ℕ) → suc n ≡ length xs → take n xs ≡ remove xs n
   take-last [] n long = absurd (cc)

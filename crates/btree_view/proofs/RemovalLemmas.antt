@@ -8,7 +8,7 @@ use Rattle.std.proofs.lemmas.Option.{slice_get_past}
 use Rattle.btree_view.specs.Edits.{is_internal}
 use Rattle.btree_view.specs.Removal.{item_or_child, removal_in}
 use Rattle.btree_view.specs.View.{View, leaf, internal, child_before_offset, children_of, item_at_offset, items_of, last_child_of, size_of}
-use Rattle.btree_view.proofs.Cuts.{is_some-within}
+use Rattle.btree_item.proofs.StoreLemmas.{is_some-within}
 
 mapped : {X Y : Type 0} (o : Option X) (y : Y) → IsSome o → option_map (λ x. y) o ≡ Some y
 mapped None y is = absurd (cc)

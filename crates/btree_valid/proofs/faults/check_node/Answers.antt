@@ -1,10 +1,8 @@
-use Rattle.btree_valid.proofs.Common.{◌≡◌, ◌∙◌, None, Some, option_copied, sym, view_of}
+use Rattle.std.proofs.lemmas.Option.{none-some}
+use Rattle.btree_valid.proofs.Common.{◌∙◌, option_copied, sym, view_of}
 use Rattle.btree_valid.proofs.FoundLemmas.{checked}
 use Rattle.btree_valid.proofs.VerdictLemmas.{node-ok}
 use Rattle.btree_valid.proofs.faults.check_node.Goals as goal
-
-clash : {A : Type 0} (x : A) → None ≡ Some x → ⊥
-clash x e = cc
 
 pub returns-in-Some-clause-passes : goal.returns-in-Some-clause-passes
 returns-in-Some-clause-passes g c = rw c.in-Some.is c.check_off_by_one.ensures
@@ -16,7 +14,7 @@ returns-in-None-clause-passes g c = rw c.in-None.is (
 )
 
 pub returns-in-Some-clause-verdict : goal.returns-in-Some-clause-verdict
-returns-in-Some-clause-verdict g c = λ none. absurd (clash _ (sym none ∙ c.in-Some.is))
+returns-in-Some-clause-verdict g c = λ none. absurd (none-some _ (sym none ∙ c.in-Some.is))
 
 pub returns-in-None-clause-verdict : goal.returns-in-None-clause-verdict
 returns-in-None-clause-verdict g c = λ none. c.validate.ensures

@@ -3,6 +3,7 @@ use Rattle.btree_valid.proofs.Common.{◌≡◌, ◌≤◌, ℕ, arith, refl}
 use Rattle.btree_laws.specs.WellFormed.{excess_allowed}
 use Rattle.btree_valid.proofs.off_by_one.most_items.Goals as goal
 
+-- one node alone may have an item more
 one_more : (exempt id more : ℕ) → more ≡ excess_allowed exempt id → more ≤ 1
 one_more exempt id more e = grind (arith, nat_tests)
 

@@ -1,7 +1,8 @@
+use Rattle.btree_internal.proofs.BranchLemmas.{long_as_branches}
 use Rattle.btree_internal.proofs.InternalSizes.{fits-slots}
 use Rattle.btree_internal.proofs.Common.{◌≡◌, ◌∙◌, [], ◌++◌, ◌∷◌, ap, length, arith, rules, length-map, internal}
 use Rattle.std.proofs.Common.{length-append}
-use Rattle.btree_internal.proofs.ChangeLemmas.{length-pairs, pairs, pairs-joined}
+use Rattle.btree_internal.proofs.ChangeLemmas.{pairs, pairs-joined}
 use Rattle.btree_internal.proofs.internal.InternalNode.append_from.Goals as goal
 
 pub item_count-requires : goal.item_count-requires
@@ -13,14 +14,12 @@ offset_at-offset-requires g c = search rules steps 200000
 pub move_tail-requires : goal.move_tail-requires
 move_tail-requires g c =
     let fits = c.well_formed in
-    let long : length (pairs c.self.inside.branches) ≡ length c.args.self.now.branches = ap (λ n. length n.branches) c.self.view_is in
-    let more : length (pairs c.other.inside.branches) ≡ length c.args.other.now.branches = ap (λ n. length n.branches) c.other.view_is in
-    let mine = length-pairs c.self.inside.branches in
+    let long = long_as_branches c.args.self.now _ c.self.inside.first c.self.inside.branches c.self.view_is in
+    let more = long_as_branches c.args.other.now _ c.other.inside.first c.other.inside.branches c.other.view_is in
     let own = length-map c.args.self.now.branches (λ b. b.0) in
     let others = length-map c.args.other.now.branches (λ b. b.0) in
-    let its = length-pairs c.other.inside.branches in
     let pushed = ap length c.push.ensures ∙ length-append c.self.inside.branches _ in
-    (omega arith, (omega arith, omega (arith, long, more, mine, its, own, others, pushed, c.requires)))
+    (omega arith, (omega arith, omega (arith, long, more, own, others, pushed, c.requires)))
 
 pub returns-clause-offset : goal.returns-clause-offset
 returns-clause-offset g c = search rules steps 200000
@@ -44,4 +43,7 @@ returns-clause-emptied g c =
     λ i. record { parent = parent i; first = first i; branches = none i }
 
 pub push-requires : goal.push-requires
-push-requires g c = let long = ap (λ n. length n.branches) c.self.view_is in let mine = length-pairs c.self.inside.branches in let own = length-map c.args.self.now.branches (λ b. b.0) in (search fits-slots, omega (arith, long, mine, own, c.requires))
+push-requires g c =
+    let long = long_as_branches c.args.self.now _ c.self.inside.first c.self.inside.branches c.self.view_is in
+    let own = length-map c.args.self.now.branches (λ b. b.0) in
+    (search fits-slots, omega (arith, long, own, c.requires))

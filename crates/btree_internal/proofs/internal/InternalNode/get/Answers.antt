@@ -1,9 +1,8 @@
-use Rattle.btree_internal.proofs.Common.{Some, Ok, ap, sym, ◌∙◌, arith, rules, internal_view, common_steps, length}
+use Rattle.btree_internal.proofs.Common.{Some, Ok, ap, sym, ◌∙◌, arith, rules, internal_view, common_steps}
 use Rattle.btree_item.proofs.PairLemmas.{before-from_Err}
-use Rattle.btree_internal.proofs.BranchLemmas.{there}
+use Rattle.btree_internal.proofs.BranchLemmas.{long_as_branches, there}
 use Rattle.btree_internal.proofs.LookUpLemmas.{look_up-Ok, look_up-Err}
 use Rattle.btree_internal.proofs.InternalSizes.{fits-slots}
-use Rattle.btree_internal.proofs.ChangeLemmas.{length-pairs}
 use Rattle.btree_internal.proofs.internal.InternalNode.get.Goals as goal
 
 pub returns-in-Ok : goal.returns-in-Ok
@@ -20,9 +19,8 @@ find-requires g c = search rules steps 200000
 
 pub branch_at-requires : goal.branch_at-requires
 branch_at-requires g c =
-    let long = ap (λ n. length n.branches) c.self.view_is in
-    let mine = length-pairs c.self.inside.branches in
-    (search fits-slots, omega (arith, long, mine, c.in-Ok.ensures.within))
+    let long = long_as_branches c.args.self.now _ c.self.inside.first c.self.inside.branches c.self.view_is in
+    (search fits-slots, omega (arith, long, c.in-Ok.ensures.within))
 
 pub value-requires : goal.value-requires
 value-requires g c κs = search rules steps 200000

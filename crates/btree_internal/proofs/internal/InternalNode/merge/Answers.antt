@@ -1,8 +1,7 @@
-use Rattle.btree_internal.proofs.BranchLemmas.{remove-view, there}
+use Rattle.btree_internal.proofs.BranchLemmas.{long_as_branches, remove-view, there}
 use Rattle.btree_internal.proofs.InternalSizes.{fits-slots}
-use Rattle.btree_internal.proofs.ChangeLemmas.{length-pairs}
 use Rattle.btree_internal.proofs.internal.InternalNode.merge.Goals as goal
-use Rattle.btree_internal.proofs.Common.{arith, rules, ap, length}
+use Rattle.btree_internal.proofs.Common.{arith, rules}
 
 pub returns-clause-item : goal.returns-clause-item
 returns-clause-item g c = there c.args.self.now _ c.self.inside.first c.self.inside.branches c.self.view_is c.args.left c.remove-item.result c.remove-item.ensures.answer
@@ -18,9 +17,8 @@ child_id-right_id-requires g c = omega arith
 
 pub remove-item-requires : goal.remove-item-requires
 remove-item-requires g c =
-    let long = ap (λ n. length n.branches) c.self.view_is in
-    let mine = length-pairs c.self.inside.branches in
-    (search fits-slots, omega (arith, long, mine, c.requires.next, c.requires.within))
+    let long = long_as_branches c.args.self.now _ c.self.inside.first c.self.inside.branches c.self.view_is in
+    (search fits-slots, omega (arith, long, c.requires.next, c.requires.within))
 
 pub balance-requires : goal.balance-requires
 balance-requires g c = omega arith

@@ -1,6 +1,6 @@
 use Rattle.btree_internal.proofs.Common.{sym, ◌∙◌, arith, rules, refl, common_steps}
 use Rattle.btree_internal.proofs.BranchLemmas.{pop_right-view, long_as_items}
-use Rattle.btree_view.proofs.Cuts.{is_some-within}
+use Rattle.btree_item.proofs.StoreLemmas.{is_some-within}
 use Rattle.btree_internal.proofs.internal.InternalNode.pop_right.Goals as goal
 
 pub returns-clause-taken : goal.returns-clause-taken

@@ -1,6 +1,7 @@
-use Rattle.btree_internal.proofs.Common.{arith, rules, ap, length, ◌∙◌, [], ◌++◌, ◌∷◌, internal, map-append, branch_pair}
+use Rattle.btree_internal.proofs.BranchLemmas.{long_as_branches}
+use Rattle.btree_internal.proofs.Common.{arith, rules, ap, ◌∙◌, [], ◌++◌, ◌∷◌, internal, map-append, branch_pair}
 use Rattle.btree_internal.proofs.InternalSizes.{fits-slots}
-use Rattle.btree_internal.proofs.ChangeLemmas.{length-pairs, pairs}
+use Rattle.btree_internal.proofs.ChangeLemmas.{pairs}
 use Rattle.btree_internal.proofs.internal.InternalNode.push_right.Goals as goal
 
 pub item_count-requires : goal.item_count-requires
@@ -11,9 +12,8 @@ offset_at-offset-requires g c = search rules steps 200000
 
 pub push-requires : goal.push-requires
 push-requires g c =
-    let long = ap (λ n. length n.branches) c.self.view_is in
-    let mine = length-pairs c.self.inside.branches in
-    (search fits-slots, omega (arith, long, mine, c.requires))
+    let long = long_as_branches c.args.self.now _ c.self.inside.first c.self.inside.branches c.self.view_is in
+    (search fits-slots, omega (arith, long, c.requires))
 
 pub returns-clause-offset : goal.returns-clause-offset
 returns-clause-offset g c = search rules steps 200000

@@ -1,7 +1,6 @@
-use Rattle.btree_internal.proofs.Common.{sym, arith, rules, common_steps, ap, length}
-use Rattle.btree_internal.proofs.BranchLemmas.{child_behind, remove-view, there}
+use Rattle.btree_internal.proofs.Common.{sym, arith, rules, common_steps}
+use Rattle.btree_internal.proofs.BranchLemmas.{long_as_branches, child_behind, remove-view, there}
 use Rattle.btree_internal.proofs.InternalSizes.{fits-slots}
-use Rattle.btree_internal.proofs.ChangeLemmas.{length-pairs}
 use Rattle.btree_internal.proofs.internal.InternalNode.remove.Goals as goal
 
 pub returns-clause-item : goal.returns-clause-item
@@ -24,10 +23,9 @@ child_id-left-requires g c = grind (arith, common_steps) steps 2000000
 
 pub remove-item-requires : goal.remove-item-requires
 remove-item-requires g c =
-    let long = ap (λ n. length n.branches) c.self.view_is in
-    let mine = length-pairs c.self.inside.branches in
+    let long = long_as_branches c.args.self.now _ c.self.inside.first c.self.inside.branches c.self.view_is in
     let low = rw c.unwrap-index.ensures.value at c.requires in
-    (search fits-slots, omega (arith, long, mine, low))
+    (search fits-slots, omega (arith, long, low))
 
 pub returns-clause-left : goal.returns-clause-left
 returns-clause-left g c = search rules steps 200000

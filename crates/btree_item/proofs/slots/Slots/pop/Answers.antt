@@ -5,6 +5,7 @@ use borrow.Author.Rules.{scaled_Fits}
 use Rattle.std.proofs.lemmas.Option.{slice_get_past}
 use Rattle.btree_item.proofs.slots.Slots.pop.Goals as goal
 
+-- where there is no last element, all stay
 all_of_none : {X : Type 0} (xs : List X) → length xs ≡ 0 → xs ≡ take (length xs - 1) xs
 all_of_none [] none = refl
 all_of_none (x ∷ xs) none = absurd (omega (arith, none))
