@@ -1,5 +1,6 @@
 use Rattle.btree_leaf.proofs.Common.{ap, sym, ◌∙◌, arith, rules, leaf_view, node_of, leaf, common_steps, length}
-use Rattle.btree_view.proofs.Cuts.{last_out, is_some-within}
+use Rattle.btree_item.proofs.StoreLemmas.{is_some-within}
+use Rattle.btree_view.proofs.Cuts.{last_out}
 use Rattle.std.proofs.Common.{refl}
 use Rattle.btree_leaf.proofs.leaf.LeafNode.pop_right.Goals as goal
 

@@ -1,5 +1,6 @@
 use Rattle.btree_leaf.proofs.Common.{length, ap, sym, ◌∙◌, arith, rules, leaf_view, node_of, leaf}
-use Rattle.btree_view.proofs.Cuts.{is_some-within, take-last}
+use Rattle.btree_item.proofs.StoreLemmas.{is_some-within}
+use Rattle.btree_view.proofs.Cuts.{take-last}
 use Rattle.btree_view.specs.Edits.{without_last}
 use Rattle.btree_view.specs.View.{last_item_of}
 use Rattle.btree_leaf.proofs.leaf.LeafNode.remove_last.Goals as goal
