@@ -1,5 +1,5 @@
 -- Counts of the numbers of ranges, one range after the other.
-use Rattle.btree_range_map.proofs.Common.{◌≡◌, ◌≤◌, ◌<◌, ◌∙◌, ℕ, max, Bool, true, false, cond, List, [], ◌∷◌, Some, refl, sym, ap, subst, arith, between-from, between-high, between-low, AscendFrom, is_within, ranges_meeting, value_at, Span}
+use Rattle.btree_range_map.proofs.Common.{◌≡◌, ◌≤◌, ◌<◌, ◌∙◌, ℕ, max, Bool, true, cond, List, [], ◌∷◌, Some, refl, sym, ap, subst, arith, between-from, between-high, between-low, AscendFrom, is_within, ranges_meeting, value_at, Span}
 use Rattle.std.specs.Prelude.{◌+◌, ◌-◌, is_some, min}
 use Rattle.btree_range_set.specs.CallerLaws.{within-not}
 use Rattle.btree_range_set.specs.CountLaws.{count-all, count-none, count-same, count-split}

@@ -1,5 +1,5 @@
 -- The first or the last range is removed.
-use Rattle.btree_range_map.proofs.Common.{◌≡◌, ◌≤◌, ◌<◌, ◌∙◌, ℕ, List, length, slice_get, Option, Some, None, refl, sym, ap, subst, arith, length-remove, slice_get_within, remove, TreeState, pairs_of, Span, AreRuns, value_at}
+use Rattle.btree_range_map.proofs.Common.{◌≡◌, ◌∙◌, ℕ, List, slice_get, Option, Some, None, refl, sym, ap, subst, arith, length-remove, slice_get_within, remove, TreeState, pairs_of, Span, AreRuns, value_at}
 use Rattle.std.proofs.Common.{IfNone, IfSome}
 use Rattle.std.specs.declared.cmp.Ordering.{Ordering}
 use Rattle.btree_map.specs.Removal.{RemovesPlace}

@@ -1,11 +1,11 @@
 -- What callers conclude from an update, of each number: it has a value that the action returned for the one that it had, or
 -- what a function makes of it, if the action is one; and of the action, by the number of its calls.
 -- AreRuns, which they require, is a clause of `update`.
-use Rattle.btree_range_map.proofs.Common.{◌≡◌, ◌≤◌, ◌<◌, ◌∙◌, ℕ, zero, suc, Bool, true, false, cond, List, [], ◌∷◌, Option, Some, None, refl, sym, ap, subst, arith, ◌⊎◌, inl, inr, cases_Bool, cases_lt, Span, between-from, between-high, between-low, AreRuns, AscendFrom, is_between, is_within, ranges_meeting, value_at, between-below, between-above}
+use Rattle.btree_range_map.proofs.Common.{◌≡◌, ◌≤◌, ◌<◌, ◌∙◌, ℕ, suc, true, false, cond, List, [], ◌∷◌, Option, Some, None, refl, sym, ap, subst, arith, ◌⊎◌, inl, inr, cases_Bool, cases_lt, Span, between-from, between-high, between-low, AreRuns, AscendFrom, is_between, is_within, ranges_meeting, value_at, between-below, between-above}
 use Rattle.std.specs.Prelude.{◌+◌, ◌++◌, length, option_map}
 use Rattle.std.proofs.lemmas.List.{append_assoc}
 use Rattle.btree_range_map.specs.declared.refused.RangeRefused.{RangeRefused}
-use Rattle.btree_range_map.specs.Series.{AreAssigned, assigned_all}
+use Rattle.btree_range_map.specs.Series.{assigned_all}
 use Rattle.btree_range_map.specs.Updates.{IsMapped, IsUpdated, IsUpdatedUntil, Returns, parts_between}
 use Rattle.btree_range_map.proofs.RangeLaws.{starts-here}
 use Rattle.btree_range_map.proofs.RunLemmas.{none-below}

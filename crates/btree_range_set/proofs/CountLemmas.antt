@@ -1,5 +1,5 @@
 -- Counts of the numbers of ranges, one range after the other.
-use Rattle.btree_range_set.proofs.Common.{◌≡◌, ◌≤◌, ◌<◌, ◌∙◌, ℕ, suc, max, Bool, true, false, ◌||◌, List, [], ◌∷◌, refl, sym, ap, subst, arith, none-below, within-from, within-high, within-low, AreRunsFrom, has_number, is_within, ranges_meeting}
+use Rattle.btree_range_set.proofs.Common.{◌≡◌, ◌≤◌, ◌<◌, ◌∙◌, ℕ, suc, max, Bool, true, ◌||◌, List, [], ◌∷◌, refl, sym, ap, subst, arith, none-below, within-from, within-high, within-low, AreRunsFrom, has_number, is_within, ranges_meeting}
 use Rattle.std.specs.Prelude.{◌+◌, ◌-◌, min}
 use Rattle.btree_range_set.specs.CallerLaws.{has-meeting, within-not}
 use Rattle.btree_range_set.specs.Counts.{count_between, count_from}

@@ -10,7 +10,7 @@ use Rattle.std.specs.Ordering.{is_le}
 use Rattle.std.specs.declared.cmp.Ordering.TheVariants.{Equal, Greater, Less}
 use Rattle.std.specs.declared.ops.Bound.TheVariants.{Included, Excluded}
 use Rattle.btree_range_set.specs.CallerLaws.{none-meet, some-meet}
-use Rattle.btree_range_set.specs.Ranges.{Overlaps, OverlapsNone, meets, ranges_meeting}
+use Rattle.btree_range_set.specs.Ranges.{Overlaps, OverlapsNone, meets}
 use Rattle.btree_range_set.proofs.RunLemmas.{has-here, run-at}
 
 -- ---- comparisons of numbers

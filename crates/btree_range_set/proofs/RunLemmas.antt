@@ -1,5 +1,5 @@
 -- Lists of ranges that are edited at one place: the numbers in them, and that they still are runs.
-use Rattle.btree_range_set.proofs.Common.{◌≡◌, ◌≤◌, ◌<◌, ◌∙◌, ℕ, zero, suc, Bool, true, false, ◌||◌, List, [], ◌∷◌, length, set, slice_get, Some, refl, sym, ap, subst, arith, ◌⊎◌, inl, inr, le-ltb, insert, remove, EndsBefore, StartsAfter, AreRunsFrom, has_number, is_within, within-below, within-above, none-below, runs-weaken}
+use Rattle.btree_range_set.proofs.Common.{◌≡◌, ◌≤◌, ◌<◌, ◌∙◌, ℕ, zero, suc, Bool, true, false, ◌||◌, List, [], ◌∷◌, length, set, slice_get, Some, refl, sym, ap, subst, arith, ◌⊎◌, inl, inr, insert, remove, EndsBefore, StartsAfter, AreRunsFrom, has_number, is_within, within-below, within-above, none-below, runs-weaken}
 use Rattle.std.specs.List.{AllByRecursion}
 
 -- ---- the numbers of a list that was edited at a place

@@ -1,5 +1,5 @@
 -- The only item of a tree without nodes.
-use Rattle.btree_raw.proofs.Common.{◌≡◌, ◌+◌, ℕ, inl, [], ◌∷◌, Option, Some, None, sym, ap, subst, ◌∙◌, ◌<◌, ◌-◌, option_map, arith, Store, Ordering, Content, get-insert_other, Address, Node, view_of, leaf, item_in, IsPlace, IsWithin, one, WritesNode, TreeState, Changes, node_map, pairs_of, IsWellFormed, len-views, need, EMPTY, InsertsExactly, IsRefused, Refuses}
+use Rattle.btree_raw.proofs.Common.{◌≡◌, ◌+◌, ℕ, inl, [], ◌∷◌, Option, Some, None, sym, ap, subst, ◌∙◌, ◌<◌, option_map, arith, Store, Ordering, Content, get-insert_other, Address, Node, view_of, leaf, item_in, IsPlace, IsWithin, one, WritesNode, TreeState, Changes, node_map, pairs_of, IsWellFormed, len-views, need, EMPTY, InsertsExactly, IsRefused, Refuses}
 use Rattle.std.specs.FinMap as map
 use Rattle.std.specs.Ordering.{nat_cmp}
 use Rattle.btree_laws.proofs.Splits.Insertion.{first-well}

@@ -1,5 +1,5 @@
 -- An item put at exactly an address: the nodes with it, and what the steps of the insertion require and leave.
-use Rattle.btree_raw.proofs.Common.{◌≡◌, ◌≢◌, ◌∙◌, ◌+◌, ◌-◌, ◌<◌, ◌≤◌, ℕ, zero, suc, inl, inr, List, [], ◌∷◌, length, Bool, true, false, Option, Some, None, IsSome, refl, sym, ap, subst, arith, slice_get, option_map, if◌then◌else◌, nat_lt, IsTotalOrder, length-map, Ordering, Content, Address, Store, Node, view_of, with_item, HasChildFor, View, leaf, internal, item_in, items_of, most_of, parent_of, size_of, times_listed, need, split_need, IsWithin, Claims, TreeState, Changes, IsOffByOneAt, IsUsed, KeepsRest, node_map, nodes_for_splits, pairs_of, views, IsOffByOne, times_used, less-no, less-or, same-node, same-or, used-one, is-off, len-views, AreClaimed, EMPTY, InsertsExactly, IsFull, IsOffByOneWith, IsRefused, Refuses, AddsItem, CanAddItem, IsCountingSplits, IsSplitting, Overflows, split_key}
+use Rattle.btree_raw.proofs.Common.{◌≡◌, ◌≢◌, ◌∙◌, ◌+◌, ◌<◌, ◌≤◌, ℕ, zero, suc, inl, inr, List, [], ◌∷◌, length, Bool, true, false, Option, Some, None, IsSome, refl, sym, ap, subst, arith, slice_get, option_map, if◌then◌else◌, nat_lt, IsTotalOrder, length-map, Ordering, Content, Address, Store, Node, view_of, with_item, HasChildFor, View, leaf, internal, item_in, items_of, most_of, parent_of, size_of, times_listed, need, split_need, IsWithin, Claims, TreeState, Changes, IsOffByOneAt, IsUsed, KeepsRest, node_map, nodes_for_splits, pairs_of, views, IsOffByOne, times_used, less-no, less-or, same-node, same-or, used-one, is-off, len-views, AreClaimed, EMPTY, InsertsExactly, IsFull, IsOffByOneWith, IsRefused, Refuses, AddsItem, CanAddItem, IsCountingSplits, IsSplitting, Overflows, split_key}
 use Rattle.std.proofs.Common.{option_and_then}
 use Rattle.std.specs.Prelude.{map}
 use Rattle.std.specs.List.{insert}

@@ -1,5 +1,5 @@
 -- Claims in a loop: one more, one freed, all freed.
-use Rattle.btree_raw.proofs.Common.{◌≡◌, ℕ, ◌+◌, ◌<◌, ◌^◌, ◌-◌, List, [], ◌∷◌, ◌++◌, IsSome, None, ap, sym, subst, TreeState, AreClaimed, EMPTY, Refuses}
+use Rattle.btree_raw.proofs.Common.{◌≡◌, ℕ, ◌<◌, ◌^◌, ◌-◌, List, [], ◌∷◌, ◌++◌, IsSome, None, ap, sym, subst, TreeState, AreClaimed, EMPTY, Refuses}
 use Rattle.std.specs.FinMap as map
 use Rattle.btree_laws.specs.TreeState.{refused_once}
 use Rattle.btree_raw.specs.Claimed.{IsClaimed}

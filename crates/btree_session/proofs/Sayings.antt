@@ -5,7 +5,6 @@ use Rattle.btree_session.specs.declared.line.Line.{Line}
 use Rattle.btree_session.specs.declared.line.Line.TheVariants as lines
 use Rattle.btree_session.specs.declared.line.Numbers.{Numbers}
 use Rattle.btree_session.specs.declared.line.Numbers.TheVariants.{Zero, One, Two}
-use Rattle.btree_session.specs.declared.question.Question.{Question}
 use Rattle.btree_session.specs.Line.{AreNumbers, Says, command_numbers, number_list}
 
 -- words are at most one list of numbers

@@ -1,5 +1,5 @@
 -- The children that the walk of the validator has passed make a part that suits.
-use Rattle.btree_valid.proofs.Common.{◌≡◌, ◌≤◌, ◌<◌, ◌∷◌, ◌++◌, [], ◌-◌, ℕ, suc, inl, inr, List, length, map, Option, Some, None, Result, Ok, refl, sym, subst, arith, IsTotalOrder, AllByRecursion, keys_of, ⊤, IfSome, IsFalse, Ordering, Less, Fault, FirstFailed, IsNodeVerdict, PassesCheck, is_judged_as_root, node_faults, NodeMap, View, items_of, most_of, parent_of, size_of, Holds, IsFilled, Subtree, count_at, items_under, later_items, Rises, rises, AreBetween, Suits, least_between, AreSized, IsSizedNode, PassesNode, Exempt, IsFilledBelow, IsNearlySized, times_under, zero-or, same-or, one-other, leaf, internal, ◌<◌, ◌∙◌}
+use Rattle.btree_valid.proofs.Common.{◌≡◌, ◌≤◌, ◌<◌, ◌∷◌, ◌++◌, [], ◌-◌, ℕ, suc, inl, inr, List, length, map, Option, Some, None, Result, Ok, refl, sym, subst, arith, IsTotalOrder, AllByRecursion, keys_of, ⊤, IfSome, IsFalse, Ordering, Less, Fault, FirstFailed, IsNodeVerdict, PassesCheck, is_judged_as_root, node_faults, NodeMap, View, items_of, most_of, parent_of, size_of, Holds, IsFilled, Subtree, count_at, items_under, later_items, Rises, rises, AreBetween, Suits, least_between, AreSized, IsSizedNode, PassesNode, Exempt, IsFilledBelow, IsNearlySized, times_under, zero-or, same-or, one-other, leaf, internal, ◌∙◌}
 use Rattle.std.proofs.Common.{append-nil}
 use Rattle.std.proofs.lemmas.Map.Entries.{length-keys_of}
 use Rattle.std.specs.Prelude.{IsTrue, slice_get}

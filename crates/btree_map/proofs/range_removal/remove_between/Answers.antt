@@ -1,4 +1,4 @@
-use Rattle.btree_map.proofs.Common.{◌≡◌, ◌∙◌, ◌++◌, ◌∷◌, ◌≤◌, [], ap, arith, false, refl, subst, sym, is_past_end, pairs_of, rises, bound_key, entry_front, left_of, passed_of, AddsNoNode}
+use Rattle.btree_map.proofs.Common.{◌≡◌, ◌∙◌, ◌++◌, ◌∷◌, [], ap, arith, false, refl, subst, sym, is_past_end, pairs_of, rises, bound_key, entry_front, left_of, passed_of, AddsNoNode}
 use Rattle.std.proofs.lemmas.List.{take-append-drop}
 use Rattle.btree_map.proofs.OutsideLemmas.{append-one, left-over, next-gone, none-between, not-empty}
 use Rattle.btree_map.proofs.range_removal.remove_between.Goals as goal

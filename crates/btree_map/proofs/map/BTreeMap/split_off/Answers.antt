@@ -1,4 +1,4 @@
-use Rattle.btree_map.proofs.Common.{◌≡◌, ◌∙◌, ◌++◌, ◌∷◌, ◌≤◌, [], arith, sym, ap, subst, Included, TreeState, pairs_of, Rises, rises}
+use Rattle.btree_map.proofs.Common.{◌≡◌, ◌∙◌, ◌++◌, ◌∷◌, [], arith, sym, ap, subst, Included, TreeState, pairs_of, Rises, rises}
 use Rattle.btree_laws.proofs.LookUp.KeyInList.{rises-right}
 use Rattle.btree_map.specs.Splitting.{AreFrom}
 use Rattle.btree_map.proofs.SplitLemmas.{all-kept, inserted-front, kept-before, moved-from, one-more}
