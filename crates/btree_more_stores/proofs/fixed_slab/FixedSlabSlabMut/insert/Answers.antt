@@ -1,3 +1,4 @@
+use Rattle.std.proofs.lemmas.Grind.{common_steps}
 use Rattle.std.proofs.Common.{◌≡◌, ℕ, ◌<◌, ◌∷◌, [], length, length-append, IsSome, None, inl, inr, arith, refl}
 use Rattle.std.proofs.lemmas.Bool.{cases_lt, false≢true}
 use Rattle.btree_store.specs.SlotLaws.{get-content, content-fill}
@@ -94,3 +95,9 @@ returns-else-self-clause-can_hold g c =
 pub returns-then-self-clause-may_refuse : goal.returns-then-self-clause-may_refuse
 returns-then-self-clause-may_refuse g c =
     rw (← c.self.view_is) (table-full _ _ _ _ _ (no-more _ c.in-None.ensures.variant.1) (omega (arith, c.if-self.true)) c.self.invariant)
+
+pub invariant_of-self-then-self : goal.invariant_of-self-then-self
+invariant_of-self-then-self g c = grind (arith, common_steps) steps 300000
+
+pub returns-then-self-clause-counted : goal.returns-then-self-clause-counted
+returns-then-self-clause-counted g c = grind (arith, common_steps) steps 300000

@@ -1,3 +1,4 @@
+use Rattle.std.proofs.lemmas.Grind.{common_steps}
 use Rattle.std.proofs.Common.{arith}
 use Rattle.btree_store.specs.SlotLaws.{get-content}
 use Rattle.btree_more_stores.proofs.FilledLemmas.{content-push, free-past}
@@ -19,3 +20,39 @@ pub returns-clause-stored : goal.returns-clause-stored
 returns-clause-stored g c =
     rw (c.push_reserved.ensures.items, ← c.self.view_is, ← c.reserve.ensures.slots, ← c.add_free.ensures.content)
     (content-push c.add_free.new.slots.items c.args.id (omega arith) c.args.value)
+
+pub invariant_of-self : goal.invariant_of-self
+invariant_of-self g c = grind (arith, common_steps) steps 300000
+
+pub returns-then-is_err-clause-unchanged : goal.returns-then-is_err-clause-unchanged
+returns-then-is_err-clause-unchanged g c = grind (arith, common_steps) steps 300000
+
+pub returns-then-is_err-clause-stays : goal.returns-then-is_err-clause-stays
+returns-then-is_err-clause-stays g c = grind (arith, common_steps) steps 300000
+
+pub returns-then-is_err-clause-uncounted : goal.returns-then-is_err-clause-uncounted
+returns-then-is_err-clause-uncounted g c = search
+
+pub add_free-requires-clause-filled : goal.add_free-requires-clause-filled
+add_free-requires-clause-filled g c = grind (arith, common_steps) steps 300000
+
+pub add_free-requires-clause-slots_room : goal.add_free-requires-clause-slots_room
+add_free-requires-clause-slots_room g c = grind (arith, common_steps) steps 300000
+
+pub add_free-requires-clause-free_room : goal.add_free-requires-clause-free_room
+add_free-requires-clause-free_room g c = grind (arith, common_steps) steps 300000
+
+pub add_free-requires-clause-above : goal.add_free-requires-clause-above
+add_free-requires-clause-above g c = grind (arith, common_steps) steps 300000
+
+pub overflow_add-self : goal.overflow_add-self
+overflow_add-self g c = omega arith
+
+pub invariant_of-self-2 : goal.invariant_of-self-2
+invariant_of-self-2 g c = grind (arith, common_steps) steps 1500000
+
+pub returns-clause-reached : goal.returns-clause-reached
+returns-clause-reached g c = omega arith
+
+pub returns-clause-uncounted : goal.returns-clause-uncounted
+returns-clause-uncounted g c = grind (arith, common_steps) steps 300000

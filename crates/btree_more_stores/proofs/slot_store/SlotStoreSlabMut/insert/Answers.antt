@@ -1,3 +1,4 @@
+use Rattle.std.proofs.lemmas.Grind.{common_steps}
 use Rattle.std.proofs.Common.{◌∷◌, [], Some, arith, inl, inr, length-append, length-set}
 use Rattle.btree_store.specs.SlotLaws.{content-fill, get-content}
 use Rattle.btree_more_stores.proofs.FilledLemmas.{content-push, filled-full, filled-refill, free-past, refilled-inside, refilled-vacant}
@@ -53,3 +54,24 @@ pub returns-clause-reuses : goal.returns-clause-reuses
 returns-clause-reuses g c =
     let full = filled-full c.self.inside.slots.items c.self.inside.free.items c.self.inside.held _ c.self.invariant (omega arith) in
     rw (c.push_reserved.ensures.items, c.reserve.ensures.slots, ← c.self.view_is) (inr (full, length-append c.self.inside.slots.items (Some c.args.value ∷ [])))
+
+pub returns-then-has_free-clause-uncounted : goal.returns-then-has_free-clause-uncounted
+returns-then-has_free-clause-uncounted g c = search
+
+pub invariant_of-self-then-is_err : goal.invariant_of-self-then-is_err
+invariant_of-self-then-is_err g c = grind (arith, common_steps) steps 300000
+
+pub returns-then-is_err-clause-unchanged : goal.returns-then-is_err-clause-unchanged
+returns-then-is_err-clause-unchanged g c = grind (arith, common_steps) steps 300000
+
+pub returns-then-is_err-clause-counted : goal.returns-then-is_err-clause-counted
+returns-then-is_err-clause-counted g c = grind (arith, common_steps) steps 300000
+
+pub push_reserved-requires : goal.push_reserved-requires
+push_reserved-requires g c = grind (arith, common_steps) steps 300000
+
+pub invariant_of-self-2 : goal.invariant_of-self-2
+invariant_of-self-2 g c = grind (arith, common_steps) steps 1500000
+
+pub returns-clause-uncounted : goal.returns-clause-uncounted
+returns-clause-uncounted g c = search
