@@ -2,7 +2,7 @@
 //! gap or at an address, removal at an address or by key, the exchange of a value and of a pair, and updates by an action.
 //!
 //! A search by a key or another query makes at most six comparisons at each level that it visits.
-#![tactic(auto, using(btree_store::specs::ContentLaws::stores))]
+#![tactic(auto)]
 
 mod ext;
 mod ext_mut;

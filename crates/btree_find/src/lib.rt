@@ -3,7 +3,7 @@
 //! A search by a key or another query makes at most six comparisons at each level. A call reads at most one node of each level, unless it
 //! says otherwise; `fits_at`, `replaces_at` and `key_fits_in` do so for each of at most two keys. No call copies a key or a value, or
 //! allocates memory. `RawBTree::is_valid` decides whether an address is valid.
-#![tactic(auto, using(btree_store::specs::ContentLaws::stores))]
+#![tactic(auto)]
 
 mod ends;
 mod fits;

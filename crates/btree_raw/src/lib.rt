@@ -1,5 +1,5 @@
 //! Trees of any content, and the steps that change them: claims, splits, rotations, merges, and rebalancing.
-#![tactic(auto, using(btree_store::specs::ContentLaws::stores))]
+#![tactic(auto)]
 
 mod borrow;
 mod claims;

@@ -1,5 +1,5 @@
 //! Decides whether nodes of any content form a tree, by one walk that copies nothing and uses no memory but the stack.
-#![tactic(auto, using(btree_store::specs::ContentLaws::stores))]
+#![tactic(auto)]
 
 mod faults;
 mod off_by_one;

@@ -57,7 +57,6 @@ module _ {T : Type 0} where
   last_out (y ∷ ys) rest x at is =
       last_parts (y ∷ ys) (length (y ∷ ys) - 1) x (omega arith) (sym at) ∙ ap (λ l. l ++ x ∷ []) (sym is)
 
-  -- a list has an element at each index below its length
   -- a list without its last element is one with the element at the last index removed
   pub take-last : (xs : List T) (n : ℕ) → suc n ≡ length xs → take n xs ≡ remove xs n
   take-last [] n long = absurd (cc)

@@ -1,8 +1,10 @@
-//! Tests of sessions.
+//! Tests of sessions and of the program over them.
 #![tactic(auto)]
 
 #[cfg(test)]
 mod asserts;
+#[cfg(test)]
+mod command_line;
 #[cfg(test)]
 mod cursor;
 #[cfg(test)]

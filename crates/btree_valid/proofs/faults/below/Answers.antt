@@ -3,7 +3,7 @@ use Rattle.btree_valid.proofs.Common.{◌∙◌, ◌+◌, ◌<◌, ℕ, ap, arit
 use Rattle.btree_valid.proofs.ChildLemmas.{child-within}
 use Rattle.btree_valid.proofs.faults.below.Goals as goal
 
--- the height of a child
+-- the level of a child
 next_fits : (n : ℕ) → n < 32 → Fits w64 (n + 1)
 next_fits n low = omega arith
 

@@ -1,8 +1,8 @@
 -- The exit status and the message of a run that did not reach the end of its input.
 use Rattle.std.specs.Prelude.{ℕ, List, ◌++◌, Result, Ok, Err, codes, decimal}
 use Rattle.btree_session.specs.declared.driver.Stop.TheVariants.{NotACommand, Memory, Input, Output}
-use Rattle.btree_script.specs.declared.Ending.{Ending}
-use Rattle.btree_script.specs.declared.Ending.TheVariants.{WrongArguments, Stopped}
+use Rattle.btree_command_line.specs.declared.Ending.{Ending}
+use Rattle.btree_command_line.specs.declared.Ending.TheVariants.{WrongArguments, Stopped}
 
 -- the exit status
 abbrev pub status_of : Ending → ℕ

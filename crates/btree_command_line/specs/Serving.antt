@@ -8,9 +8,9 @@ use Rattle.btree_session.specs.Held.{Held}
 use Rattle.btree_session.specs.Script.{Drives}
 use Rattle.btree_session.specs.declared.options.Setup.{Setup}
 use Rattle.btree_session.specs.declared.driver.Stop.{Stop}
-use Rattle.btree_script.specs.declared.Ending.{Ending}
-use Rattle.btree_script.specs.declared.Ending.TheVariants.{Stopped, WrongArguments}
-use Rattle.btree_script.specs.Ending.{status_after}
+use Rattle.btree_command_line.specs.declared.Ending.{Ending}
+use Rattle.btree_command_line.specs.declared.Ending.TheVariants.{Stopped, WrongArguments}
+use Rattle.btree_command_line.specs.Ending.{status_after}
 
 -- a session over an empty map with this limit, which holds no place, was driven, over stores that may refuse a node in these
 -- contents

@@ -1,9 +1,8 @@
-mod asserts;
-
+//! The program's arguments, its whole runs, and what it prints at their ends.
 ghost use Rattle.std.specs.Io.{WritesAtMost};
 
-use crate::{Ending, read_arguments, report, run, run_and_report};
-use asserts::{assert_same, assert_same_in};
+use crate::asserts::{assert_same, assert_same_in};
+use btree_command_line::{Ending, read_arguments, report, run, run_and_report};
 use btree_session::{Setup, Stop, setup};
 use std::alloc::Global;
 use std::cell::Cell;
