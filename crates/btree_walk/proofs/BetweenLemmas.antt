@@ -1,6 +1,7 @@
 -- The part of a list between two bounds, where its keys ascend: the list in parts at a key.
-use Rattle.btree_walk.proofs.Common.{◌≡◌, List, [], ◌∷◌, ◌++◌, Bool, true, false, refl, sym, ap, subst, ◌∙◌, append_assoc, entries_between, range_contains, IsTotalOrder, AllByRecursion, filter, Ordering, Equal, Greater, Less, Included, Unbounded, cuts_of, AllByRecursion-append, AreAbove, AreBelow, Rises, rises-right, side}
+use Rattle.btree_walk.proofs.Common.{[], ◌≡◌, List, ◌∷◌, ◌++◌, Bool, true, false, refl, sym, subst, ◌∙◌, append_assoc, entries_between, range_contains, IsTotalOrder, AllByRecursion, Ordering, Equal, Greater, Less, Included, Unbounded, cuts_of, AllByRecursion-append, AreAbove, AreBelow, Rises, rises-right, side}
 use Rattle.btree_laws.proofs.LookUp.KeyInList.{equal-back, equal-front}
+use Rattle.btree_walk.proofs.BoundLemmas.{filter-earlier, filter-later}
 
 module _ {X : Type 0} (test : X → Bool) where
   -- all of the elements pass the test
@@ -10,22 +11,6 @@ module _ {X : Type 0} (test : X → Bool) where
   -- all of the elements fail it
   abbrev pub Fail : List X → Type 0
   Fail xs = AllByRecursion (λ x. test x ≡ false) xs
-
-  pub filter-keeps : (ys : List X) → Pass ys → filter test ys ≡ ys
-  filter-keeps [] all = refl
-  filter-keeps (y ∷ ys) all = rw all.0 (ap (λ l. y ∷ l) (filter-keeps ys all.1))
-
-  pub filter-fails : (xs : List X) → Fail xs → filter test xs ≡ []
-  filter-fails [] all = refl
-  filter-fails (x ∷ xs) all = rw all.0 (filter-fails xs all.1)
-
-  pub filter-drops : (xs ys : List X) → Fail xs → Pass ys → filter test (xs ++ ys) ≡ ys
-  filter-drops [] ys fail pass = filter-keeps ys pass
-  filter-drops (x ∷ xs) ys fail pass = rw fail.0 (filter-drops xs ys fail.1 pass)
-
-  pub filter-drops_back : (xs ys : List X) → Pass xs → Fail ys → filter test (xs ++ ys) ≡ xs
-  filter-drops_back [] ys pass fail = filter-fails ys fail
-  filter-drops_back (x ∷ xs) ys pass fail = rw pass.0 (ap (λ l. x ∷ l) (filter-drops_back xs ys pass.1 fail))
 
 module _ {K V : Type 0} (cmp : K → K → Ordering) (k : K) (laws : IsTotalOrder cmp) where
   abbrev pub from_key : K × V → Bool
@@ -63,10 +48,10 @@ module _ {K V : Type 0} (cmp : K → K → Ordering) (k : K) (laws : IsTotalOrde
     -- the key is not in the list
     module _ (xs ys : List (K × V)) (is : whole ≡ xs ++ ys) (low : AreBelow cmp k xs) (high : AreAbove cmp k ys) where
       pub from-miss : ys ≡ entries_between cmp (Included k) Unbounded whole
-      from-miss = rw is (sym (filter-drops from_key xs ys (below-fail xs low) (above-pass ys high)))
+      from-miss = rw is (sym (filter-later from_key xs ys (below-fail xs low) (above-pass ys high)))
 
       pub up_to-miss : xs ≡ entries_between cmp Unbounded (Included k) whole
-      up_to-miss = rw is (sym (filter-drops_back up_to_key xs ys (below-pass xs low) (above-fail ys high)))
+      up_to-miss = rw is (sym (filter-earlier up_to_key xs ys (below-pass xs low) (above-fail ys high)))
 
     -- x has the key
     module _ (up : Rises cmp whole) (xs : List (K × V)) (x : K × V) (ys : List (K × V)) (is : whole ≡ xs ++ x ∷ ys) (same : side cmp k x ≡ Equal) where
@@ -82,7 +67,7 @@ module _ {K V : Type 0} (cmp : K → K → Ordering) (k : K) (laws : IsTotalOrde
       pub from-hit : x ∷ ys ≡ entries_between cmp (Included k) Unbounded whole
       from-hit =
           let here : from_key x ≡ true = rw (turned-equal x same) refl in
-          rw is (sym (filter-drops from_key xs (x ∷ ys) (below-fail xs below-hit) (here, above-pass ys above-hit)))
+          rw is (sym (filter-later from_key xs (x ∷ ys) (below-fail xs below-hit) (here, above-pass ys above-hit)))
 
       pub up_to-hit : xs ++ x ∷ [] ≡ entries_between cmp Unbounded (Included k) whole
       up_to-hit =
@@ -90,4 +75,4 @@ module _ {K V : Type 0} (cmp : K → K → Ordering) (k : K) (laws : IsTotalOrde
           let pass : Pass up_to_key (xs ++ x ∷ []) =
           AllByRecursion-append (λ y. up_to_key y ≡ true) xs (x ∷ []) (below-pass xs below-hit) (here, tt) in
           rw (is ∙ sym (append_assoc xs (x ∷ []) ys))
-          (sym (filter-drops_back up_to_key (xs ++ x ∷ []) ys pass (above-fail ys above-hit)))
+          (sym (filter-earlier up_to_key (xs ++ x ∷ []) ys pass (above-fail ys above-hit)))

@@ -1,5 +1,5 @@
 -- The pairs of a rising list between two bounds.
-use Rattle.btree_walk.proofs.Common.{◌≡◌, ◌∙◌, suc, ◌+◌, ◌-◌, Bool, true, false, not, List, [], ◌∷◌, ◌++◌, length, take, refl, sym, ap, subst, arith, length-append, take_at, entries_between, range_contains, IsTotalOrder, AllByRecursion, filter, Ordering, Equal, Greater, Less, Bound, Included, Unbounded, Rises, rises-left, rises-right, AllByRecursion-right}
+use Rattle.btree_walk.proofs.Common.{[], ◌≡◌, ◌∙◌, suc, ◌+◌, ◌-◌, Bool, true, false, not, List, ◌∷◌, ◌++◌, length, take, refl, sym, ap, subst, arith, length-append, take_at, entries_between, range_contains, IsTotalOrder, AllByRecursion, filter, Ordering, Equal, Greater, Less, Bound, Included, Unbounded, Rises, rises-left, rises-right, AllByRecursion-right}
 use Rattle.std.proofs.Common.{cond, ◌&&◌}
 use Rattle.std.proofs.lemmas.List.{append-nil}
 use Rattle.std.proofs.lemmas.List.Elements.{filter-append}
@@ -54,10 +54,6 @@ module _ {A : Type 0} where
         ∙ ap (λ b. cond (not b) (x ∷ filter both (inn ++ out)) (filter both (inn ++ out))) until.0
         ∙ ap (λ l. x ∷ l) (front-both inn out pass.1 until.1 past)
 
-    right : (P : A → Type 0) (xs ys : List A) → AllByRecursion P (xs ++ ys) → AllByRecursion P ys
-    right P [] ys all = all
-    right P (x ∷ xs) ys all = right P xs ys all.1
-
     pub both-take : (outside inside inn out : List A) → outside ++ inside ≡ inn ++ out → AllByRecursion (λ x. p x ≡ true) inside
         → AllByRecursion (λ x. q x ≡ false) inn → AllByRecursion (λ x. q x ≡ true) out → filter both inside ≡ take (length inn - length outside) inside
     both-take [] inside inn out e pass until past =
@@ -66,7 +62,7 @@ module _ {A : Type 0} where
     both-take (x ∷ outside) inside [] out e pass until past =
         let n : 0 - suc (length outside) ≡ 0 = omega arith in
         let all : AllByRecursion (λ y. q y ≡ true) ((x ∷ outside) ++ inside) = subst (λ l. AllByRecursion (λ y. q y ≡ true) l) (sym e) past in
-        rw n (none-both inside pass (right (λ y. q y ≡ true) (x ∷ outside) inside all))
+        rw n (none-both inside pass (AllByRecursion-right (λ y. q y ≡ true) (x ∷ outside) inside all))
     both-take (x ∷ outside) inside (y ∷ inn) out e pass until past =
         let n : suc (length inn) - suc (length outside) ≡ length inn - length outside = omega arith in
         let tail : outside ++ inside ≡ inn ++ out = cc in

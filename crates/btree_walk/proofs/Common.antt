@@ -27,7 +27,7 @@ pub use Rattle.btree_store.specs.Content.{Content}
 pub use Rattle.btree_view.specs.View.{NodeMap, internal, View, items_of, leaf, children_of, size_of, branches_of}
 pub use Rattle.btree_walk.specs.Bounds.{bound_key}
 pub use Rattle.btree_walk.specs.Near.{IsLast, branch_past, list_under, pair_past, branch_now}
-pub use Rattle.btree_walk.specs.Preceding.{preceding_in, with_child_before, AreRowsBefore, preceding_above, row_before, rows_before, AreFetched}
+pub use Rattle.btree_walk.specs.Preceding.{preceding_in, with_child_before, preceding_above, row_before, rows_before, AreFetched}
 pub use Rattle.btree_walk.specs.Ranges.{IsFirstOf, IsLastOf, from_first, left_until, pair_now, behind_of, ahead_of}
 pub use Rattle.btree_walk.specs.Rows.{rows_of, remaining_in_leaf}
 pub use Rattle.btree_walk.specs.declared.ancestors.Ancestor.{Ancestor}

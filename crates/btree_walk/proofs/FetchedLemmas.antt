@@ -1,12 +1,13 @@
 -- The leaves that a backward walk has fetched.
-use Rattle.btree_walk.proofs.Common.{◌≡◌, ℕ, zero, suc, ◌-◌, ◌<◌, ◌≤◌, List, [], ◌∷◌, ◌++◌, length, map, take, Option, Some, None, IsSome, refl, sym, subst, slice_get, arith, length-map, Bor, AllByRecursion, View, leaf, internal, children_of, size_of, IsUnder, TreeState, node_map, Ancestor, row_before, with_child_before}
+use Rattle.btree_walk.proofs.Common.{[], ◌≡◌, ℕ, zero, suc, ◌-◌, ◌<◌, ◌≤◌, List, ◌∷◌, ◌++◌, length, map, take, Option, Some, None, IsSome, refl, sym, subst, slice_get, arith, length-map, Bor, AllByRecursion, View, leaf, internal, children_of, size_of, TreeState, Ancestor, row_before, with_child_before}
 use Rattle.std.specs.FinMap as finite
 use Rattle.std.specs.Option.{option_copied}
 use Rattle.btree_laws.specs.TreeState.{IsUsed}
 use Rattle.btree_walk.specs.Preceding.{AreAncestorsBefore, HasChildrenBefore}
-use Rattle.btree_walk.proofs.BackLemmas.{row_of, taken-off-back}
+use Rattle.btree_walk.proofs.BackLemmas.{behind, row_of}
 use Rattle.btree_walk.proofs.RowLemmas.{get-within}
 use Rattle.btree_walk.proofs.WalkLemmas.{under-used}
+use Rattle.btree_walk.proofs.WayLemmas.{AreUnder, taken-off}
 
 module _ {X : Type 0} (P : X → Type 0) where
   -- what holds of each element holds of one of them, and of each of the first ones
@@ -36,7 +37,7 @@ module _ {X : Type 0} where
 
 module _ {A : Type 0} (P : ℕ → Type 0) where
   in-row : (first : ℕ) (bs : List (A × ℕ)) (n index id : ℕ) → slice_get (first ∷ map (λ b. b.1) bs) index ≡ Some id → index < n → n ≤ length bs
-      → AllByRecursion (λ (b : ℕ × A). P b.0) (take n (with_child_before first bs)) → P id
+      → AllByRecursion (λ (b : A × ℕ). P b.1) (take n (with_child_before first bs)) → P id
   in-row first [] n index id e low room all = absurd (omega arith)
   in-row first (b ∷ bs) zero index id e low room all = absurd (omega arith)
   in-row first (b ∷ bs) (suc n) zero id e low room all = let same : first ≡ id = cc in subst P same all.0
@@ -44,20 +45,19 @@ module _ {A : Type 0} (P : ℕ → Type 0) where
 
   -- a child before an item that is not passed is in the row
   pub row-child : (v : View A) (passed index id : ℕ) → slice_get (children_of v) index ≡ Some id → index < size_of v - passed
-      → AllByRecursion (λ (b : ℕ × A). P b.0) (row_before v passed) → P id
+      → AllByRecursion (λ (b : A × ℕ). P b.1) (row_before v passed) → P id
   row-child (leaf p ys) passed index id e low all = absurd (cc)
   row-child (internal p first bs) passed index id e low all =
       let n = length-map bs (λ (b : A × ℕ). b.0) in
       in-row first bs (length (map (λ (b : A × ℕ). b.0) bs) - passed) index id e low (omega arith) all
 
 module _ {K V : Type 0} (tree : TreeState K V) where
-  all-used : (depth : ℕ) (row : List (ℕ × (K × V))) → AllByRecursion (λ (b : ℕ × (K × V)). IsUnder (node_map tree) (finite.len tree.nodes) depth b.0) row
-      → AllByRecursion (λ (b : ℕ × (K × V)). IsUsed tree b.0) row
+  all-used : (depth : ℕ) (row : List ((K × V) × ℕ)) → AreUnder tree depth row → AllByRecursion (λ (b : (K × V) × ℕ). IsUsed tree b.1) row
   all-used depth [] all = tt
-  all-used depth (b ∷ row) all = (under-used tree.nodes (finite.len tree.nodes) depth b.0 all.0, all-used depth row all.1)
+  all-used depth (b ∷ row) all = (under-used tree.nodes (finite.len tree.nodes) depth b.1 all.0, all-used depth row all.1)
 
   -- the children of the lowest ancestor are nodes
   pub lowest-used : (ancestors : List (Ancestor K V)) (f : Ancestor K V) → AreAncestorsBefore tree ancestors → slice_get ancestors (length ancestors - 1) ≡ Some f
       → HasChildrenBefore tree f
   lowest-used ancestors f was at =
-      all-used _ (row_of f) (taken-off-back tree.nodes (finite.len tree.nodes) ancestors (take (length ancestors - 1) ancestors) f was (sym at) refl).under
+      all-used _ (row_of f) (taken-off (behind tree) ancestors was (sym at) refl).under

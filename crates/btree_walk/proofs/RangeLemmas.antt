@@ -1,10 +1,11 @@
 -- A range of a rising list, from both ends: the pairs from the first one on, and the last pair that was found.
-use Rattle.btree_walk.proofs.Common.{◌≡◌, ◌∙◌, ℕ, ◌<◌, ◌≤◌, Bool, true, false, not, List, [], ◌∷◌, ◌++◌, length, Option, Some, None, refl, sym, ap, subst, arith, append_assoc, entries_between, range_contains, IsTotalOrder, AllByRecursion, filter, option_or, Ordering, Equal, Greater, Less, Bound, Unbounded, Rises, rises-right, AllByRecursion-append, AllByRecursion-right, IsLast, IsFirstOf, IsLastOf, from_first, left_until}
+use Rattle.btree_walk.proofs.Common.{[], ◌≡◌, ◌∙◌, ℕ, ◌<◌, ◌≤◌, Bool, true, false, not, List, ◌∷◌, ◌++◌, length, Option, Some, None, refl, sym, ap, subst, arith, append_assoc, append-nil, entries_between, range_contains, IsTotalOrder, AllByRecursion, filter, option_or, Ordering, Equal, Greater, Less, Bound, Unbounded, Rises, rises, rises-right, AllByRecursion-append, AllByRecursion-right, IsLast, IsFirstOf, IsLastOf, from_first, left_until}
 use Rattle.std.proofs.Common.{cond, ◌&&◌}
 use Rattle.std.specs.BTreeMap.Range.{is_from_start, is_past_end}
 use Rattle.std.specs.Cmp.{tied_itself}
 use Rattle.std.specs.Ordering.{is_gt, is_le, is_lt}
 use Rattle.std.specs.declared.ops.Bound.TheVariants.{Excluded}
+use Rattle.btree_item.specs.Pairs.{Ascends}
 use Rattle.btree_laws.proofs.LookUp.KeyInList.{reversed, reversed-back}
 use Rattle.btree_walk.specs.Ranges.{AreLeftSame, IsAhead, IsBehind, bound_at}
 use Rattle.btree_walk.proofs.BoundLemmas.{all-so, end-cut, filter-earlier, filter-none, from-start, start-cut, until-end}
@@ -176,7 +177,7 @@ none-left cmp (Some y) is_left = refl
 module _ {K V : Type 0} {cmp : K → K → Ordering} (laws : IsTotalOrder cmp) (all : List (K × V)) (up : Rises cmp all)
     (x : K × V) (ahead : List (K × V)) (front : IsAhead all (Some x) ahead) (y : K × V) where
   rising : Rises cmp (x ∷ ahead)
-  rising = rises-right cmp front.0 (x ∷ ahead) (subst (λ l. Rises cmp l) front.1 up)
+  rising = rises-right cmp front.before (x ∷ ahead) (subst (λ l. Rises cmp l) front.is up)
 
   -- an element at the front is within the bound, or past it
   first-in : (is_left : Bool) → is_past_end cmp (bound_at y.0 is_left) x.0 ≡ false → left_until cmp (x ∷ ahead) (Some y) is_left ≡ x ∷ left_until cmp ahead (Some y) is_left
@@ -193,7 +194,7 @@ module _ {K V : Type 0} {cmp : K → K → Ordering} (laws : IsTotalOrder cmp) (
   steps-on is_left e next rest more =
       let list = first-list ahead next rest more in (
         first-in is_left (bound-below laws y.0 x.0 is_left e) ∙ ap (λ l. x ∷ left_until cmp l (Some y) is_left) list,
-        (front.0 ++ x ∷ [], front.1 ∙ ap (λ l. front.0 ++ x ∷ l) list ∙ sym (append_assoc front.0 (x ∷ []) (from_first next rest))),
+        record { before = front.before ++ x ∷ []; is = front.is ∙ ap (λ l. front.before ++ x ∷ l) list ∙ sym (append_assoc front.before (x ∷ []) (from_first next rest)) },
       )
 
   pub meets : cmp x.0 y.0 ≡ Equal → left_until cmp (x ∷ ahead) (Some y) true ≡ x ∷ []
@@ -223,8 +224,8 @@ module _ {K V : Type 0} {cmp : K → K → Ordering} (laws : IsTotalOrder cmp) (
       → left_until cmp (x ∷ ahead) (Some y) true ≡ left_until cmp (x ∷ ahead) (Some y) false ++ y ∷ []
   gives-last behind back e =
       let b = behind-parts all y behind back in
-      let c = compared laws front.0 x ahead b.0 y b.1 (subst (λ l. Rises cmp l) front.1 up) (sym front.1 ∙ b.2) in
-      let s = split-end front.0 (x ∷ ahead) b.0 (y ∷ b.1) (sym front.1 ∙ b.2) (low c (cmp x.0 y.0) refl) in
+      let c = compared laws front.before x ahead b.0 y b.1 (subst (λ l. Rises cmp l) front.is up) (sym front.is ∙ b.2) in
+      let s = split-end front.before (x ∷ ahead) b.0 (y ∷ b.1) (sym front.is ∙ b.2) (low c (cmp x.0 y.0) refl) in
       let rise : Rises cmp (s.0 ++ y ∷ b.1) = subst (λ l. Rises cmp l) s.1 rising in
       ap (λ l. left_until cmp l (Some y) true) s.1 ∙ until-left laws s.0 y b.1 rise
       ∙ ap (λ l. l ++ y ∷ []) (sym (ap (λ l. left_until cmp l (Some y) false) s.1 ∙ until-given laws s.0 y b.1 rise))
@@ -234,9 +235,16 @@ module _ {K V : Type 0} {cmp : K → K → Ordering} (laws : IsTotalOrder cmp) (
       low c Equal is = let l = c.equal is in omega arith
       low c Greater is = let no : true ≡ false = ap is_gt (sym is) ∙ e in absurd (cc)
 
+-- no first pair, and so none ahead
+pub none-ahead : {A : Type 0} {all ahead : List A} → IsAhead all None ahead
+none-ahead {A} {all} {ahead} = record { before = all; is = sym (append-nil all) }
+
 -- a step, where the first pair and the last one are known by equations
-module _ {K V : Type 0} {cmp : K → K → Ordering} (laws : IsTotalOrder cmp) (all : List (K × V)) (up : Rises cmp all)
-    (first last : Option (K × V)) (ahead : List (K × V)) (front : IsAhead all first ahead) (x y : K × V) (is : first ≡ Some x) (ends : last ≡ Some y) (is_left : Bool) where
+module _ {K V : Type 0} {cmp : K → K → Ordering} (laws : IsTotalOrder cmp) {all : List (K × V)} (ascend : Ascends cmp all) {first last : Option (K × V)}
+    {ahead : List (K × V)} (front : IsAhead all first ahead) {x y : K × V} (is : first ≡ Some x) (ends : last ≡ Some y) (is_left : Bool) where
+  up : Rises cmp all
+  up = rises cmp all ascend
+
   abbrev pub left_now : List (K × V)
   left_now = left_until cmp (from_first first ahead) last is_left
 
@@ -264,7 +272,7 @@ module _ {K V : Type 0} {cmp : K → K → Ordering} (laws : IsTotalOrder cmp) (
   -- another last pair leaves the same
   module _ (other : Option (K × V)) (same : AreLeftSame cmp all (Some y) is_left other true) where
     kept : left_now ≡ left_until cmp (from_first first ahead) other true
-    kept = ap (λ o. left_until cmp (from_first first ahead) o is_left) ends ∙ same front.0 (from_first first ahead) front.1
+    kept = ap (λ o. left_until cmp (from_first first ahead) o is_left) ends ∙ same front.before (from_first first ahead) front.is
 
     pub none-back : other ≡ None → left_now ≡ []
     none-back none = kept ∙ ap (λ o. left_until cmp (from_first first ahead) o true) none
@@ -306,7 +314,7 @@ module _ {K V : Type 0} {cmp : K → K → Ordering} (laws : IsTotalOrder cmp) w
         c.is ∙ ap (λ l. c.outside ++ l) (sym (from-start laws all up lo) ∙ first-list (entries_between cmp lo Unbounded all) first ahead is)
 
     pub begins-ahead : IsAhead all first ahead
-    begins-ahead = ((start-cut laws lo all up).outside, cut)
+    begins-ahead = record { before = (start-cut laws lo all up).outside; is = cut }
 
     pub begins-rises : Rises cmp pairs
     begins-rises = rises-right cmp (start-cut laws lo all up).outside pairs (subst (λ l. Rises cmp l) cut up)

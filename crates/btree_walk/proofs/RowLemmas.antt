@@ -1,5 +1,5 @@
 -- Rows of a walk: lists, and what an internal node represents read from its last child backwards.
-use Rattle.btree_walk.proofs.Common.{◌≡◌, ℕ, zero, suc, ◌+◌, ◌-◌, ◌<◌, ◌≤◌, List, [], ◌∷◌, ◌++◌, length, map, drop, take, slice_get, Option, Some, None, refl, sym, ap, subst, ◌∙◌, arith, append_assoc, append-nil, length_push, Bor, AllByRecursion, NodeMap, internal, IsUnder, remaining_in, represented, under-internal, AreRowsBefore, preceding_above, preceding_in, with_child_before}
+use Rattle.btree_walk.proofs.Common.{[], ◌≡◌, ℕ, zero, suc, ◌+◌, ◌-◌, ◌<◌, ◌≤◌, List, ◌∷◌, ◌++◌, length, map, drop, take, slice_get, Option, Some, None, refl, sym, ap, subst, ◌∙◌, arith, append_assoc, append-nil, length_push, Bor, AllByRecursion, NodeMap, internal, IsUnder, remaining_in, represented, under-internal, preceding_above, preceding_in, with_child_before}
 use Rattle.std.specs.Iterator.{YieldsFirstRef, YieldsLastRef}
 
 -- no elements of a list
@@ -76,20 +76,20 @@ module _ {A : Type 0} where
   before-length child (b ∷ bs) = ap suc (before-length b.1 bs)
 
   pub before-get : (child : ℕ) (bs : List (A × ℕ)) (n : ℕ) (x : A) (c : ℕ) → slice_get (map (λ b. b.0) bs) n ≡ Some x
-      → slice_get (child ∷ map (λ b. b.1) bs) n ≡ Some c → slice_get (with_child_before child bs) n ≡ Some (c, x)
+      → slice_get (child ∷ map (λ b. b.1) bs) n ≡ Some c → slice_get (with_child_before child bs) n ≡ Some (x, c)
   before-get child [] n x c e f = absurd (cc)
   before-get child (b ∷ bs) zero x c e f = let same : b.0 ≡ x = cc in let at : child ≡ c = cc in rw (same, at) refl
   before-get child (b ∷ bs) (suc n) x c e f = before-get b.1 bs n x c e f
 
   -- each item of the row with its child before it
-  pub all-more : (P : ℕ → Type 0) (row : List (ℕ × A)) (c : ℕ) (x : A) → AllByRecursion (λ (b : ℕ × A). P b.0) (row ++ (c, x) ∷ [])
-      → AllByRecursion (λ (b : ℕ × A). P b.0) row × P c
-  all-more P [] c x all = (tt, all.0)
-  all-more P (b ∷ row) c x all = let rest = all-more P row c x all.1 in ((all.0, rest.0), rest.1)
+  pub all-more : (P : ℕ → Type 0) (row : List (A × ℕ)) (b : A × ℕ) → AllByRecursion (λ (c : A × ℕ). P c.1) (row ++ b ∷ [])
+      → P b.1 × AllByRecursion (λ (c : A × ℕ). P c.1) row
+  all-more P [] b all = (all.0, tt)
+  all-more P (c ∷ row) b all = let rest = all-more P row b all.1 in (rest.0, (all.0, rest.1))
 
 module _ {A : Type 0} (node_at : NodeMap A) (levels : ℕ) where
   -- of the rows, the last one added is passed first
-  pub preceding-push : (rows : List (List (ℕ × A))) (row : List (ℕ × A))
+  pub preceding-push : (rows : List (List (A × ℕ))) (row : List (A × ℕ))
       → preceding_above node_at levels (rows ++ row ∷ []) ≡ preceding_above node_at levels rows ++ preceding_in node_at levels row
   preceding-push [] row = append-nil (preceding_in node_at levels row)
   preceding-push (r ∷ rows) row =
@@ -97,34 +97,18 @@ module _ {A : Type 0} (node_at : NodeMap A) (levels : ℕ) where
       ∙ sym (append_assoc (preceding_in node_at levels r) (preceding_above node_at levels rows) (preceding_in node_at levels row))
 
   -- an item more in a row, with the child before it
-  pub preceding-more : (row : List (ℕ × A)) (c : ℕ) (x : A)
-      → preceding_in node_at levels (row ++ (c, x) ∷ []) ≡ (preceding_in node_at levels row ++ represented node_at levels c) ++ x ∷ []
-  preceding-more [] c x = append-nil (represented node_at levels c ++ x ∷ [])
-  preceding-more (b ∷ row) c x =
-      ap (λ l. (represented node_at levels b.0 ++ b.1 ∷ []) ++ l) (preceding-more row c x)
-      ∙ sym (append_assoc (represented node_at levels b.0 ++ b.1 ∷ []) (preceding_in node_at levels row ++ represented node_at levels c) (x ∷ []))
-      ∙ ap (λ l. l ++ x ∷ []) (sym (append_assoc (represented node_at levels b.0 ++ b.1 ∷ []) (preceding_in node_at levels row) (represented node_at levels c)))
-
-  pub before-push : (depth : ℕ) (rows : List (List (ℕ × A))) (row : List (ℕ × A)) → AreRowsBefore node_at levels depth rows
-      → AllByRecursion (λ (b : ℕ × A). IsUnder node_at levels (suc (depth + length rows)) b.0) row → AreRowsBefore node_at levels depth (rows ++ row ∷ [])
-  before-push depth [] row are all = let z : depth + 0 ≡ depth = omega arith in (rw (sym z) all, tt)
-  before-push depth (r ∷ rows) row are all = let s : suc depth + length rows ≡ depth + suc (length rows) = omega arith in (are.0, before-push (suc depth) rows row are.1 (rw s all))
-
-  pub record LowestBefore (depth : ℕ) (rows : List (List (ℕ × A))) (row : List (ℕ × A)) : Type 0 where
-    pub above : AreRowsBefore node_at levels depth rows
-    pub under : AllByRecursion (λ (b : ℕ × A). IsUnder node_at levels (suc (depth + length rows)) b.0) row
-
-  pub before-pop : (depth : ℕ) (rows : List (List (ℕ × A))) (row : List (ℕ × A)) → AreRowsBefore node_at levels depth (rows ++ row ∷ []) → LowestBefore depth rows row
-  before-pop depth [] row are = let z : depth + 0 ≡ depth = omega arith in record { above = tt; under = rw z are.0 }
-  before-pop depth (r ∷ rows) row are =
-      let s : depth + suc (length rows) ≡ suc depth + length rows = omega arith in
-      let low = before-pop (suc depth) rows row are.1 in
-      record { above = (are.0, low.above); under = rw s low.under }
+  pub preceding-more : (row : List (A × ℕ)) (b : A × ℕ)
+      → preceding_in node_at levels (row ++ b ∷ []) ≡ (preceding_in node_at levels row ++ represented node_at levels b.1) ++ b.0 ∷ []
+  preceding-more [] b = append-nil (represented node_at levels b.1 ++ b.0 ∷ [])
+  preceding-more (c ∷ row) b =
+      ap (λ l. (represented node_at levels c.1 ++ c.0 ∷ []) ++ l) (preceding-more row b)
+      ∙ sym (append_assoc (represented node_at levels c.1 ++ c.0 ∷ []) (preceding_in node_at levels row ++ represented node_at levels b.1) (b.0 ∷ []))
+      ∙ ap (λ l. l ++ b.0 ∷ []) (sym (append_assoc (represented node_at levels c.1 ++ c.0 ∷ []) (preceding_in node_at levels row) (represented node_at levels b.1)))
 
   -- an internal node represents its row, and then the list of its last child
   pub record InsideBefore (depth id first last : ℕ) (bs : List (A × ℕ)) : Type 0 where
     pub last_under : IsUnder node_at levels (suc depth) last
-    pub row_under : AllByRecursion (λ (b : ℕ × A). IsUnder node_at levels (suc depth) b.0) (with_child_before first bs)
+    pub row_under : AllByRecursion (λ (b : A × ℕ). IsUnder node_at levels (suc depth) b.1) (with_child_before first bs)
     pub list : represented node_at levels id ≡ preceding_in node_at levels (with_child_before first bs) ++ represented node_at levels last
 
   pub turned : (first : ℕ) (bs : List (A × ℕ)) (last : ℕ) → slice_get (first ∷ map (λ b. b.1) bs) (length bs) ≡ Some last
@@ -137,7 +121,7 @@ module _ {A : Type 0} (node_at : NodeMap A) (levels : ℕ) where
       ∙ sym (append_assoc (represented node_at levels first ++ b.0 ∷ []) (preceding_in node_at levels (with_child_before b.1 bs)) (represented node_at levels last))
 
   unders : (P : ℕ → Type 0) (first : ℕ) (bs : List (A × ℕ)) (last : ℕ) → slice_get (first ∷ map (λ b. b.1) bs) (length bs) ≡ Some last → P first
-      → AllByRecursion (λ (b : A × ℕ). P b.1) bs → AllByRecursion (λ (b : ℕ × A). P b.0) (with_child_before first bs) × P last
+      → AllByRecursion (λ (b : A × ℕ). P b.1) bs → AllByRecursion (λ (b : A × ℕ). P b.1) (with_child_before first bs) × P last
   unders P first [] last e here all = let same : first ≡ last = cc in (tt, rw (← same) here)
   unders P first (b ∷ bs) last e here all = let rest = unders P b.1 bs last e all.0 all.1 in ((here, rest.0), rest.1)
 

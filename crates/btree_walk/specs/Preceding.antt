@@ -3,7 +3,7 @@
 -- internal node: the items that are not passed, each with the child before it. `preceding_of` is the list of pairs that
 -- are left, and `preceding_at` the same on the way down to a node. `IsPreviousAbove` says which pair above the
 -- leaf is the last of them.
-use Rattle.std.specs.Prelude.{⊤, ◌≡◌, ℕ, suc, ◌+◌, ◌-◌, ◌≤◌, List, [], ◌∷◌, ◌++◌, length, map, take, Option, Some, None}
+use Rattle.std.specs.Prelude.{⊤, ◌≡◌, ℕ, ◌+◌, ◌-◌, ◌≤◌, List, [], ◌∷◌, ◌++◌, length, map, take, Option, Some, None}
 use Rattle.std.specs.Borrow.{Bor}
 use Rattle.std.specs.FinMap as finite
 use Rattle.std.specs.List.{flat_map, AllByRecursion}
@@ -11,7 +11,7 @@ use Rattle.btree_leaf.specs.Leaf.{Leaf}
 use Rattle.btree_node.specs.declared.node.Node.{Node}
 use Rattle.btree_node.specs.Node.{view_of}
 use Rattle.btree_view.specs.View.{View, leaf, internal, NodeMap, size_of}
-use Rattle.btree_laws.specs.Remaining.{IsUnder}
+use Rattle.btree_laws.specs.Remaining.{AreRows, IsUnder}
 use Rattle.btree_laws.specs.Represents.{represented}
 use Rattle.btree_laws.specs.TreeState.{TreeState, IsUsed, node_map}
 use Rattle.btree_walk.specs.Rows.{run_left}
@@ -19,43 +19,37 @@ use Rattle.btree_walk.specs.declared.ancestors.Ancestor.{Ancestor}
 
 module _ {A : Type 0} where
   -- the items, each with the child before it; `child` is before the first
-  abbrev pub with_child_before : (child : ℕ) → List (A × ℕ) → List (ℕ × A)
+  abbrev pub with_child_before : (child : ℕ) → List (A × ℕ) → List (A × ℕ)
   with_child_before child [] = []
-  with_child_before child (b ∷ bs) = (child, b.0) ∷ with_child_before b.1 bs
+  with_child_before child (b ∷ bs) = (b.0, child) ∷ with_child_before b.1 bs
 
   -- the items of an internal node, each with the child before it
-  abbrev pub branches_before : View A → List (ℕ × A)
+  abbrev pub branches_before : View A → List (A × ℕ)
   branches_before (leaf parent items) = []
   branches_before (internal parent first branches) = with_child_before first branches
 
   -- those that are not passed
-  abbrev pub row_before : View A → (passed : ℕ) → List (ℕ × A)
+  abbrev pub row_before : View A → (passed : ℕ) → List (A × ℕ)
   row_before node passed = take (size_of node - passed) (branches_before node)
 
   -- the last of them, or none if all are passed
   abbrev pub EndsAt : View A → (passed : ℕ) → Option (Bor A × ℕ) → Type 0
   EndsAt node passed None = row_before node passed ≡ []
-  EndsAt node passed (Some b) = row_before node passed ≡ row_before node (passed + 1) ++ (b.1, b.0.now) ∷ []
+  EndsAt node passed (Some b) = row_before node passed ≡ row_before node (passed + 1) ++ (b.0.now, b.1) ∷ []
 
 module _ {A : Type 0} (node_at : NodeMap A) (levels : ℕ) where
   -- the list that the child before each item of a row represents, and then the item
-  abbrev pub preceding_in : List (ℕ × A) → List A
-  preceding_in row = flat_map (λ b. represented node_at levels b.0 ++ b.1 ∷ []) row
+  abbrev pub preceding_in : List (A × ℕ) → List A
+  preceding_in row = flat_map (λ b. represented node_at levels b.1 ++ b.0 ∷ []) row
 
   -- what is left in all rows; the highest row comes first
-  abbrev pub preceding_above : List (List (ℕ × A)) → List A
+  abbrev pub preceding_above : List (List (A × ℕ)) → List A
   preceding_above [] = []
   preceding_above (row ∷ rows) = preceding_in row ++ preceding_above rows
 
-  -- the children of a row are one level below the row's node, and so is the node of the next row
-  abbrev pub AreRowsBefore : (depth : ℕ) → List (List (ℕ × A)) → Type 0
-  AreRowsBefore depth [] = Unit {0}
-  AreRowsBefore depth (row ∷ rows) =
-      AllByRecursion (λ b. IsUnder node_at levels (suc depth) b.0) row × AreRowsBefore (suc depth) rows
-
 module _ {K V : Type 0} where
   -- for each ancestor the items that are not passed
-  abbrev pub rows_before : List (Ancestor K V) → List (List (ℕ × (K × V)))
+  abbrev pub rows_before : List (Ancestor K V) → List (List ((K × V) × ℕ))
   rows_before ancestors = map (λ f. row_before (view_of f.node.now) f.passed) ancestors
 
   -- the first items of a leaf, as many as are not passed
@@ -76,7 +70,7 @@ module _ {K V : Type 0} where
 module _ {K V : Type 0} (tree : TreeState K V) where
   -- ancestors from the root down: the child before each item that is not passed is one level below
   abbrev pub AreAncestorsBefore : List (Ancestor K V) → Type 0
-  AreAncestorsBefore ancestors = AreRowsBefore (node_map tree) (finite.len tree.nodes) 0 (rows_before ancestors)
+  AreAncestorsBefore ancestors = AreRows (node_map tree) (finite.len tree.nodes) 0 (rows_before ancestors)
 
   -- each is the node with its number
   abbrev pub AreFetched : List (ℕ × Bor (Node K V)) → Type 0
@@ -85,7 +79,7 @@ module _ {K V : Type 0} (tree : TreeState K V) where
   -- the child before each item that an ancestor has not passed is a node of the tree
   abbrev pub HasChildrenBefore : Ancestor K V → Type 0
   HasChildrenBefore f =
-      AllByRecursion (λ b. IsUsed tree b.0) (row_before (view_of f.node.now) f.passed)
+      AllByRecursion (λ b. IsUsed tree b.1) (row_before (view_of f.node.now) f.passed)
 
   -- what is left in the ancestors
   abbrev pub preceding_in_ancestors : List (Ancestor K V) → List (K × V)

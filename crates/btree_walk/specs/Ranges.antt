@@ -20,8 +20,9 @@ module _ {A : Type 0} where
   from_first (Some x) ahead = x ∷ ahead
 
   -- these are the end of the list
-  abbrev pub IsAhead : (all : List A) → (first : Option A) → (ahead : List A) → Type 0
-  IsAhead all first ahead = (before : List A) × (all ≡ before ++ from_first first ahead)
+  pub record IsAhead (all : List A) (first : Option A) (ahead : List A) : Type 0 where
+    pub before : List A
+    pub is : all ≡ before ++ from_first first ahead
 
   -- the last pair is in the list; with a backward walk, the pairs before it are those that the walk has left
   abbrev pub IsBehind : (all : List A) → (last : Option A) → (behind : Option (List A)) → Type 0

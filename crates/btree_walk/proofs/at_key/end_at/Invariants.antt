@@ -1,10 +1,9 @@
 use Rattle.btree_walk.proofs.Common.{◌-◌, length, pairs_of}
-use Rattle.std.specs.FinMap as map
 use Rattle.btree_walk.proofs.UpToLemmas.{IsUpTo}
 use Rattle.btree_walk.proofs.at_key.end_at.Given as goal
 
 abbrev pub invariant-loop-leaf : goal.invariant-loop-leaf
-invariant-loop-leaf g l = IsUpTo g.K.Ord.cmp l.key l.tree.nodes (map.len l.tree.nodes) (pairs_of l.tree) l.ancestors l.id
+invariant-loop-leaf g l = IsUpTo g.K.Ord.cmp l.key l.tree (pairs_of l.tree) l.ancestors l.id
 
 abbrev pub decreases-loop-leaf : goal.decreases-loop-leaf
 decreases-loop-leaf g l = 32 - length l.ancestors

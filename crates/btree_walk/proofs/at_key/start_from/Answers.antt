@@ -1,8 +1,11 @@
-use Rattle.btree_walk.proofs.Common.{◌++◌, [], refl, sym, ap, subst, ◌∙◌, arith, append-nil, view_of, remaining_above, represented, node_map, pairs_of, pairs_under, IsWellFormed, rises, rows_of}
+use Rattle.btree_walk.proofs.Common.{[], ◌++◌, refl, sym, ap, subst, ◌∙◌, arith, append-nil, view_of, list_under, node_map, pairs_of, pairs_under, IsWellFormed, rises}
 use Rattle.std.specs.FinMap as map
-use Rattle.btree_walk.proofs.FromLemmas.{from-ascends, from-down, from-found, from-leaf, from-room}
+use Rattle.btree_walk.specs.Rows.{remaining_in_ancestors}
+use Rattle.btree_walk.proofs.AroundLemmas.{items-ascend}
+use Rattle.btree_walk.proofs.FromLemmas.{from-down, from-found, from-leaf}
 use Rattle.btree_walk.proofs.IterLemmas.{root-under}
-use Rattle.btree_walk.proofs.WalkLemmas.{under-used}
+use Rattle.btree_walk.proofs.WalkLemmas.{ahead, under-used}
+use Rattle.btree_walk.proofs.WayLemmas.{room}
 use Rattle.btree_walk.proofs.RowLemmas.{pushed-smaller}
 use Rattle.btree_walk.proofs.at_key.start_from.Goals as goal
 
@@ -15,14 +18,16 @@ loop-leaf-init g c =
       rows = rw c.requires.none tt;
       under = rw c.requires.none (root-under g.K.Ord.cmp c.args.tree.now c.in-Some.root (rw (← is) fits) well);
       before = [];
-      list =
-          sym (
-          ap (λ fs. represented (node_map c.args.tree.now) (map.len c.args.tree.now.nodes) c.in-Some.root ++ remaining_above (node_map c.args.tree.now) (map.len c.args.tree.now.nodes) (rows_of fs)) c.requires.none
-          ∙ append-nil (represented (node_map c.args.tree.now) (map.len c.args.tree.now.nodes) c.in-Some.root)
-          ∙ ap (λ r. pairs_under (node_map c.args.tree.now) r (map.len c.args.tree.now.nodes)) c.in-Some.ensures.value
-          );
-      low = tt;
-      high = rw c.requires.none tt;
+      around = record {
+        list =
+            sym (
+            ap (λ fs. list_under c.args.tree.now c.in-Some.root ++ remaining_in_ancestors c.args.tree.now fs) c.requires.none
+            ∙ append-nil (list_under c.args.tree.now c.in-Some.root)
+            ∙ ap (λ r. pairs_under (node_map c.args.tree.now) r (map.len c.args.tree.now.nodes)) c.in-Some.ensures.value
+            );
+        low = tt;
+        high = rw c.requires.none tt;
+      };
     }
 
 pub node-node-requires : goal.node-node-requires
@@ -31,8 +36,7 @@ node-node-requires g c = (c.tell_fits.ensures, under-used c.args.tree.now.nodes 
 pub items_below-passed-requires : goal.items_below-passed-requires
 items_below-passed-requires g c = (
   c.tell_fits.ensures,
-  from-ascends g.K.Ord.cmp c.args.key.now g.met.K.Ord.total c.args.tree.now.nodes (map.len c.args.tree.now.nodes) (pairs_of c.args.tree.now)
-      (rises g.K.Ord.cmp (pairs_of c.args.tree.now) c.in-Some.ensures.well_formed.ascends) c.loop-leaf.ancestors c.loop-leaf.id c.loop-leaf.invariant c.node-node.result.now c.node-node.ensures,
+  items-ascend g.met.K.Ord.total (rises g.K.Ord.cmp (pairs_of c.args.tree.now) c.in-Some.ensures.well_formed.ascends) c.loop-leaf.invariant.around c.loop-leaf.invariant.under c.node-node.result.now c.node-node.ensures,
 )
 
 pub returns-in-Leaf-clause-above : goal.returns-in-Leaf-clause-above
@@ -40,39 +44,33 @@ returns-in-Leaf-clause-above g c = c.loop-leaf.invariant.rows
 
 pub returns-in-Leaf-clause-left : goal.returns-in-Leaf-clause-left
 returns-in-Leaf-clause-left g c =
-    from-leaf g.K.Ord.cmp c.args.key.now g.met.K.Ord.total c.args.tree.now.nodes (map.len c.args.tree.now.nodes) (pairs_of c.args.tree.now)
-    (rises g.K.Ord.cmp (pairs_of c.args.tree.now) c.in-Some.ensures.well_formed.ascends) c.loop-leaf.ancestors c.loop-leaf.id c.loop-leaf.invariant c.node-node.result.now c.node-node.ensures
+    from-leaf g.met.K.Ord.total (rises g.K.Ord.cmp (pairs_of c.args.tree.now) c.in-Some.ensures.well_formed.ascends) c.loop-leaf.invariant c.node-node.result.now c.node-node.ensures
     c.in-Leaf.leaf.parent c.in-Leaf.leaf.items (ap view_of c.in-Leaf.is) c.items_below-passed.result.0 c.items_below-passed.result.1 c.items_below-passed.ensures
 
 pub push-requires : goal.push-requires
 push-requires g c = (
   omega arith,
-  from-room g.K.Ord.cmp c.args.key.now g.met.K.Ord.total c.args.tree.now.nodes (map.len c.args.tree.now.nodes) (pairs_of c.args.tree.now)
-      (rises g.K.Ord.cmp (pairs_of c.args.tree.now) c.in-Some.ensures.well_formed.ascends) c.loop-leaf.ancestors c.loop-leaf.id c.loop-leaf.invariant,
+  room (ahead c.args.tree.now) c.loop-leaf.ancestors c.loop-leaf.invariant.under,
 )
 
 pub loop-leaf-smaller : goal.loop-leaf-smaller
 loop-leaf-smaller g c = pushed-smaller c.loop-leaf.ancestors _ c.push.new.self
-    (from-room g.K.Ord.cmp c.args.key.now g.met.K.Ord.total c.args.tree.now.nodes (map.len c.args.tree.now.nodes) (pairs_of c.args.tree.now)
-    (rises g.K.Ord.cmp (pairs_of c.args.tree.now) c.in-Some.ensures.well_formed.ascends) c.loop-leaf.ancestors c.loop-leaf.id c.loop-leaf.invariant) c.push.ensures
+    (room (ahead c.args.tree.now) c.loop-leaf.ancestors c.loop-leaf.invariant.under) c.push.ensures
 
 pub loop-leaf-preserved : goal.loop-leaf-preserved
 loop-leaf-preserved g c =
-    from-down g.K.Ord.cmp c.args.key.now g.met.K.Ord.total c.args.tree.now.nodes (map.len c.args.tree.now.nodes) (pairs_of c.args.tree.now)
-    (rises g.K.Ord.cmp (pairs_of c.args.tree.now) c.in-Some.ensures.well_formed.ascends) c.loop-leaf.ancestors c.loop-leaf.id c.loop-leaf.invariant c.node-node.result.now c.node-node.ensures
+    from-down g.met.K.Ord.total (rises g.K.Ord.cmp (pairs_of c.args.tree.now) c.in-Some.ensures.well_formed.ascends) c.loop-leaf.invariant c.node-node.result.now c.node-node.ensures
     c.in-Internal.field-0.parent c.in-Internal.field-0.first c.in-Internal.field-0.branches (ap view_of c.in-Internal.is)
-    (record { node = c.node-node.result; passed = c.items_below-passed.result.0 }) (rw c.in-Internal.is refl) c.push.new.self c.push.ensures c.in-Some-next.child (rw (← c.in-Some-next.is) c.items_below-passed.ensures)
+    (record { node = c.node-node.result; passed = c.items_below-passed.result.0 }) (rw c.in-Internal.is refl) c.push.ensures c.in-Some-next.child (rw (← c.in-Some-next.is) c.items_below-passed.ensures)
 
 pub returns-in-None-clause-above : goal.returns-in-None-clause-above
 returns-in-None-clause-above g c =
-    (from-found g.K.Ord.cmp c.args.key.now g.met.K.Ord.total c.args.tree.now.nodes (map.len c.args.tree.now.nodes) (pairs_of c.args.tree.now)
-    (rises g.K.Ord.cmp (pairs_of c.args.tree.now) c.in-Some.ensures.well_formed.ascends) c.loop-leaf.ancestors c.loop-leaf.id c.loop-leaf.invariant c.node-node.result.now c.node-node.ensures
+    (from-found g.met.K.Ord.total (rises g.K.Ord.cmp (pairs_of c.args.tree.now) c.in-Some.ensures.well_formed.ascends) c.loop-leaf.invariant c.node-node.result.now c.node-node.ensures
     c.in-Internal.field-0.parent c.in-Internal.field-0.first c.in-Internal.field-0.branches (ap view_of c.in-Internal.is)
-    (record { node = c.node-node.result; passed = c.items_below-passed.result.0 }) (rw c.in-Internal.is refl) c.push.new.self c.push.ensures (rw (← c.in-None.is) c.items_below-passed.ensures)).rows
+    (record { node = c.node-node.result; passed = c.items_below-passed.result.0 }) (rw c.in-Internal.is refl) c.push.ensures (rw (← c.in-None.is) c.items_below-passed.ensures)).0
 
 pub returns-in-None-clause-left : goal.returns-in-None-clause-left
 returns-in-None-clause-left g c =
-    (from-found g.K.Ord.cmp c.args.key.now g.met.K.Ord.total c.args.tree.now.nodes (map.len c.args.tree.now.nodes) (pairs_of c.args.tree.now)
-    (rises g.K.Ord.cmp (pairs_of c.args.tree.now) c.in-Some.ensures.well_formed.ascends) c.loop-leaf.ancestors c.loop-leaf.id c.loop-leaf.invariant c.node-node.result.now c.node-node.ensures
+    (from-found g.met.K.Ord.total (rises g.K.Ord.cmp (pairs_of c.args.tree.now) c.in-Some.ensures.well_formed.ascends) c.loop-leaf.invariant c.node-node.result.now c.node-node.ensures
     c.in-Internal.field-0.parent c.in-Internal.field-0.first c.in-Internal.field-0.branches (ap view_of c.in-Internal.is)
-    (record { node = c.node-node.result; passed = c.items_below-passed.result.0 }) (rw c.in-Internal.is refl) c.push.new.self c.push.ensures (rw (← c.in-None.is) c.items_below-passed.ensures)).list
+    (record { node = c.node-node.result; passed = c.items_below-passed.result.0 }) (rw c.in-Internal.is refl) c.push.ensures (rw (← c.in-None.is) c.items_below-passed.ensures)).1

@@ -1,12 +1,12 @@
-use Rattle.btree_walk.proofs.Common.{◌++◌, ◌-◌, length, represented, views, AreFetched, preceding_above, rows_before}
-use Rattle.std.specs.FinMap as map
-use Rattle.btree_walk.proofs.BackLemmas.{IsDownBack}
+use Rattle.btree_walk.proofs.Common.{◌++◌, ◌-◌, length, list_under, AreFetched}
+use Rattle.btree_walk.specs.Preceding.{preceding_in_ancestors}
+use Rattle.btree_walk.proofs.BackLemmas.{behind}
+use Rattle.btree_walk.proofs.WayLemmas.{IsDown}
 use Rattle.btree_walk.proofs.backward.descend_last.Given as goal
 
 abbrev pub invariant-loop-leaf : goal.invariant-loop-leaf
 invariant-loop-leaf g l = record {
-  down :
-      IsDownBack l.tree.nodes (map.len l.tree.nodes) (preceding_above (views l.tree.nodes) (map.len l.tree.nodes) (rows_before l.initial.ancestors) ++ represented (views l.tree.nodes) (map.len l.tree.nodes) l.fn.top) l.ancestors l.id;
+  down : IsDown (behind l.tree) (preceding_in_ancestors l.tree l.initial.ancestors ++ list_under l.tree l.fn.top) l.ancestors l.id;
   fetched : AreFetched l.tree l.fetched;
 }
 

@@ -1,6 +1,6 @@
-use Rattle.btree_walk.proofs.Common.{refl, arith, rules, ap, ◌∙◌, ◌∷◌, ◌++◌, ◌+◌, [], fits-leaf, rows_before}
-use Rattle.std.specs.FinMap as map
-use Rattle.btree_walk.proofs.BackLemmas.{back-list, back-over, back-passed, back-push-room, back-rows, back-under, taken-off-back}
+use Rattle.btree_walk.proofs.Common.{[], refl, arith, rules, ap, ◌∙◌, ◌∷◌, ◌++◌, ◌+◌, fits-leaf, rows_before}
+use Rattle.btree_walk.proofs.BackLemmas.{behind}
+use Rattle.btree_walk.proofs.WayLemmas.{taken-off, up-over, up-passed, up-steps}
 use Rattle.btree_walk.proofs.backward.previous_above.Goals as goal
 
 pub loop-ancestor-init : goal.loop-ancestor-init
@@ -8,42 +8,36 @@ loop-ancestor-init g c = record { up = record { rows = c.requires.above; list = 
 
 pub push-requires : goal.push-requires
 push-requires g c =
-    let off = taken-off-back c.args.tree.now.nodes (map.len c.args.tree.now.nodes) c.loop-ancestor.ancestors c.pop.new.self c.in-Some.ancestor c.loop-ancestor.invariant.up.rows c.in-Some.ensures.answer c.in-Some.ensures.after in
-    (omega arith, back-push-room c.args.tree.now.nodes (map.len c.args.tree.now.nodes) _ c.loop-ancestor.ancestors c.loop-ancestor.invariant.up c.pop.new.self c.in-Some.ancestor off _ _ (record { node = c.in-Some.ancestor.node; passed = c.in-Some.ancestor.passed + 1 }) c.in-Some-branch_before.ensures.last _ refl)
+    let off = taken-off (behind c.args.tree.now) c.loop-ancestor.ancestors c.loop-ancestor.invariant.up.rows c.in-Some.ensures.answer c.in-Some.ensures.after in
+    (omega arith, (up-steps (behind c.args.tree.now) c.loop-ancestor.invariant.up off _ _ (record { node = c.in-Some.ancestor.node; passed = c.in-Some.ancestor.passed + 1 }) c.in-Some-branch_before.ensures.last refl).room)
 
 pub descend_last-kept-requires : goal.descend_last-kept-requires
 descend_last-kept-requires g c =
-    let off = taken-off-back c.args.tree.now.nodes (map.len c.args.tree.now.nodes) c.loop-ancestor.ancestors c.pop.new.self c.in-Some.ancestor c.loop-ancestor.invariant.up.rows c.in-Some.ensures.answer c.in-Some.ensures.after in
-    let rows = back-rows c.args.tree.now.nodes (map.len c.args.tree.now.nodes) _ c.loop-ancestor.ancestors c.loop-ancestor.invariant.up c.pop.new.self c.in-Some.ancestor off _ _ _ c.in-Some-branch_before.ensures.last c.push.new.self c.push.ensures in
-    let under = back-under c.args.tree.now.nodes (map.len c.args.tree.now.nodes) _ c.loop-ancestor.ancestors c.loop-ancestor.invariant.up c.pop.new.self c.in-Some.ancestor off _ _ _ c.in-Some-branch_before.ensures.last c.push.new.self c.push.ensures in
-    (omega arith, (omega arith, (search rules, (search fits-leaf, (rows, (under, c.loop-ancestor.invariant.fetched))))))
+    let off = taken-off (behind c.args.tree.now) c.loop-ancestor.ancestors c.loop-ancestor.invariant.up.rows c.in-Some.ensures.answer c.in-Some.ensures.after in
+    let steps = up-steps (behind c.args.tree.now) c.loop-ancestor.invariant.up off _ _ _ c.in-Some-branch_before.ensures.last c.push.ensures in
+    (omega arith, (omega arith, (search rules, (search fits-leaf, (steps.rows, (steps.under, c.loop-ancestor.invariant.fetched))))))
 
 pub returns-in-Some-branch_before-clause-left : goal.returns-in-Some-branch_before-clause-left
 returns-in-Some-branch_before-clause-left g c =
-    let off = taken-off-back c.args.tree.now.nodes (map.len c.args.tree.now.nodes) c.loop-ancestor.ancestors c.pop.new.self c.in-Some.ancestor c.loop-ancestor.invariant.up.rows c.in-Some.ensures.answer c.in-Some.ensures.after in
-    back-list c.args.tree.now.nodes (map.len c.args.tree.now.nodes) _ c.loop-ancestor.ancestors c.loop-ancestor.invariant.up c.pop.new.self c.in-Some.ancestor off _ _ _ c.in-Some-branch_before.ensures.last c.push.new.self c.push.ensures
+    let off = taken-off (behind c.args.tree.now) c.loop-ancestor.ancestors c.loop-ancestor.invariant.up.rows c.in-Some.ensures.answer c.in-Some.ensures.after in
+    (up-steps (behind c.args.tree.now) c.loop-ancestor.invariant.up off _ _ _ c.in-Some-branch_before.ensures.last c.push.ensures).list
     ∙ rw (c.key.ensures, c.value.ensures) (ap (λ l. l ++ c.in-Some-branch_before.item.now ∷ []) c.descend_last-kept.ensures.left)
 
 pub loop-ancestor-smaller : goal.loop-ancestor-smaller
-loop-ancestor-smaller g c =
-    let off = taken-off-back c.args.tree.now.nodes (map.len c.args.tree.now.nodes) c.loop-ancestor.ancestors c.pop.new.self c.in-Some.ancestor c.loop-ancestor.invariant.up.rows c.in-Some.ensures.answer c.in-Some.ensures.after in
-    off.fewer
+loop-ancestor-smaller g c = (taken-off (behind c.args.tree.now) c.loop-ancestor.ancestors c.loop-ancestor.invariant.up.rows c.in-Some.ensures.answer c.in-Some.ensures.after).fewer
 
 pub loop-ancestor-preserved : goal.loop-ancestor-preserved
 loop-ancestor-preserved g c =
-    let off = taken-off-back c.args.tree.now.nodes (map.len c.args.tree.now.nodes) c.loop-ancestor.ancestors c.pop.new.self c.in-Some.ancestor c.loop-ancestor.invariant.up.rows c.in-Some.ensures.answer c.in-Some.ensures.after in
-    record {
-      up = back-passed c.args.tree.now.nodes (map.len c.args.tree.now.nodes) _ c.loop-ancestor.ancestors c.loop-ancestor.invariant.up c.pop.new.self c.in-Some.ancestor off c.in_default-branch_before.ensures.last;
-      fetched = c.loop-ancestor.invariant.fetched;
-    }
+    let off = taken-off (behind c.args.tree.now) c.loop-ancestor.ancestors c.loop-ancestor.invariant.up.rows c.in-Some.ensures.answer c.in-Some.ensures.after in
+    record { up = up-passed (behind c.args.tree.now) c.loop-ancestor.invariant.up off c.in_default-branch_before.ensures.last; fetched = c.loop-ancestor.invariant.fetched }
 
 pub returns-clause-above : goal.returns-clause-above
-returns-clause-above g c = rw (back-over c.args.tree.now.nodes (map.len c.args.tree.now.nodes) _ c.loop-ancestor.ancestors c.loop-ancestor.invariant.up c.in_default.ensures.answer c.pop.new.self c.in_default.ensures.after).rest_none tt
+returns-clause-above g c = rw (up-over (behind c.args.tree.now) c.loop-ancestor.invariant.up c.in_default.ensures.answer c.in_default.ensures.after).0 tt
 
 pub returns-clause-left : goal.returns-clause-left
 returns-clause-left g c =
-    let over = back-over c.args.tree.now.nodes (map.len c.args.tree.now.nodes) _ c.loop-ancestor.ancestors c.loop-ancestor.invariant.up c.in_default.ensures.answer c.pop.new.self c.in_default.ensures.after in
-    (over.list, ap rows_before over.rest_none)
+    let over = up-over (behind c.args.tree.now) c.loop-ancestor.invariant.up c.in_default.ensures.answer c.in_default.ensures.after in
+    (over.1, ap rows_before over.0)
 
 pub fetch_before-requires : goal.fetch_before-requires
 fetch_before-requires g c = (omega arith, (omega arith, (search rules, (c.descend_last-kept.ensures.above, c.descend_last-kept.ensures.fetched))))
