@@ -96,14 +96,14 @@ fn take_and_put_back(
 }
 
 /// Prints where blocks are reserved, of 32, and which are free then.
-fn print_blocks<C: NodesMut<u64, u64> + Drop>(
+fn print_blocks<C: NodesMut<u64, u64>>(
     rt: &impl Print,
-    mut reserved: range_set::RangeSet<C>,
+    reserved: &mut range_set::RangeSet<C>,
 ) -> io::Result<()> {
     reserved.insert(0, 14)?;
     reserved.remove(2, 8)?;
     for size in [7, 5, 12] {
-        match reserve(&mut reserved, size, 32)? {
+        match reserve(reserved, size, 32)? {
             Some(start) => rt.println(format_args!("{size} blocks: from {start}"))?,
             None => rt.println(format_args!("{size} blocks: no room"))?,
         }
@@ -115,20 +115,20 @@ fn print_blocks<C: NodesMut<u64, u64> + Drop>(
 }
 
 /// Prints who owns which addresses, of a hundred. Some are reserved, and some of these given away and back.
-fn print_memory<C: NodesMut<u64, Span<Owner>> + Drop>(
+fn print_memory<C: NodesMut<u64, Span<Owner>>>(
     rt: &impl Print,
-    mut memory: range_map::RangeMap<Owner, C>,
+    memory: &mut range_map::RangeMap<Owner, C>,
 ) -> io::Result<()> {
-    give(&mut memory, 0, 16, Owner::System)?;
-    let start = reserve_memory(&mut memory, 40, 100, Owner::Process(1))?;
+    give(memory, 0, 16, Owner::System)?;
+    let start = reserve_memory(memory, 40, 100, Owner::Process(1))?;
     rt.println(format_args!("40 addresses: from {}", start.unwrap_or(100)))?;
     for (owner, is) in [(2, "a part"), (1, "the whole")] {
-        give(&mut memory, 30, 40, Owner::Process(owner))?;
-        if let Some((start, span)) = region_of(&memory, 20) {
+        give(memory, 30, 40, Owner::Process(owner))?;
+        if let Some((start, span)) = region_of(memory, 20) {
             rt.println(format_args!("{is}: {start} to {}", span.end))?;
         }
     }
-    print_released(rt, &mut memory)
+    print_released(rt, memory)
 }
 
 /// Prints who owns them once some are released, and some handed over.
@@ -146,16 +146,16 @@ fn print_released<C: NodesMut<u64, Span<Owner>>>(
 }
 
 /// Prints how many regions a process takes over, of three that touch its addresses, and who owns one of them then.
-fn print_taken<C: NodesMut<u64, Span<Owner>> + Drop>(
+fn print_taken<C: NodesMut<u64, Span<Owner>>>(
     rt: &impl Print,
-    mut memory: range_map::RangeMap<Owner, C>,
+    memory: &mut range_map::RangeMap<Owner, C>,
 ) -> io::Result<()> {
-    give(&mut memory, 0, 4, Owner::System)?;
-    give(&mut memory, 8, 12, Owner::Process(1))?;
-    give(&mut memory, 12, 14, Owner::Process(2))?;
-    let regions = take_over(&mut memory, 2, 13, Owner::Process(3))?;
+    give(memory, 0, 4, Owner::System)?;
+    give(memory, 8, 12, Owner::Process(1))?;
+    give(memory, 12, 14, Owner::Process(2))?;
+    let regions = take_over(memory, 2, 13, Owner::Process(3))?;
     rt.println(format_args!("taken over: {regions} regions"))?;
-    rt.println(format_args!("address 10: {:?}", owner_of(&memory, 10)))
+    rt.println(format_args!("address 10: {:?}", owner_of(memory, 10)))
 }
 
 /// Prints how often each of a few words occurs.
@@ -171,46 +171,46 @@ fn print_counts(rt: &impl Print, alloc: Global) -> io::Result<()> {
 }
 
 /// Prints how often two of a few words occur, in a map of strings.
-fn print_texts<C: NodesMut<String, u64> + Drop>(
+fn print_texts<C: NodesMut<String, u64>>(
     rt: &impl Print,
     alloc: Global,
-    mut counts: generic::BTreeMap<String, u64, C>,
+    counts: &mut generic::BTreeMap<String, u64, C>,
 ) -> io::Result<()> {
     for word in ["to", "be", "or", "not", "to", "be"] {
-        count_text(&mut counts, alloc, word)?;
+        count_text(counts, alloc, word)?;
     }
     for word in ["be", "bee"] {
-        rt.println(format_args!("texts: {word} {}", count_of(&counts, word)))?;
+        rt.println(format_args!("texts: {word} {}", count_of(counts, word)))?;
     }
     Ok(())
 }
 
 /// Prints what was logged in two minutes.
-fn print_log<C: NodesMut<u64, u32> + Drop>(
+fn print_log<C: NodesMut<u64, u32>>(
     rt: &impl Print,
-    mut log: generic::BTreeMap<u64, u32, C>,
+    log: &mut generic::BTreeMap<u64, u32, C>,
 ) -> io::Result<()> {
     for (second, door) in [(59, 3), (180, 2), (60, 1), (119, 3), (179, 1)] {
         log.insert(second, door)?;
     }
-    for (second, door) in logged(&log, Minute { number: 1 }, Minute { number: 3 }) {
+    for (second, door) in logged(log, Minute { number: 1 }, Minute { number: 3 }) {
         rt.println(format_args!("second {second}: door {door}"))?;
     }
     Ok(())
 }
 
 /// Prints the shelves of a part, of which one is cleared.
-fn print_shelves<C: NodesMut<(u32, u32), ()> + Drop>(
+fn print_shelves<C: NodesMut<(u32, u32), ()>>(
     rt: &impl Print,
     alloc: Global,
-    mut shelves: generic::BTreeSet<(u32, u32), C>,
+    shelves: &mut generic::BTreeSet<(u32, u32), C>,
 ) -> io::Result<()> {
     for pair in [(408, 4), (17, 1), (408, 1), (408, 3)] {
         shelves.insert(pair)?;
     }
     shelves.remove(&(408, 3));
     let mut found = Vec::new(alloc);
-    append_shelves(&shelves, &408, &mut found)?;
+    append_shelves(shelves, &408, &mut found)?;
     for shelf in found.iter() {
         rt.println(format_args!("408 is on shelf {shelf}"))?;
     }
@@ -241,15 +241,15 @@ fn print_copies(rt: &impl Print, stock: BTreeMap<u32, u64>) -> io::Result<()> {
 }
 
 /// Prints the parts of an order that are not in stock.
-fn print_missing<C: NodesMut<u32, u64>, D: NodesMut<u32, ()> + Drop>(
+fn print_missing<C: NodesMut<u32, u64>, D: NodesMut<u32, ()>>(
     rt: &impl Print,
     stock: &generic::BTreeMap<u32, u64, C>,
-    mut order: generic::BTreeSet<u32, D>,
-    mut parts: generic::BTreeSet<u32, D>,
+    order: &mut generic::BTreeSet<u32, D>,
+    parts: &mut generic::BTreeSet<u32, D>,
 ) -> io::Result<()> {
     order.extend(&mut [408, 1203, 2000].into_iter())?;
     parts.extend_copied(&mut stock.keys())?;
-    for part in order.difference(&parts) {
+    for part in order.difference(parts) {
         rt.println(format_args!("missing: {part}"))?;
     }
     Ok(())
@@ -322,17 +322,17 @@ fn print_cache(rt: &impl Print) -> io::Result<()> {
 }
 
 /// Prints what is taken of three orders, of which one is cancelled.
-fn print_orders<C: NodesMut<(u64, u64), u64> + Drop>(
+fn print_orders<C: NodesMut<(u64, u64), u64>>(
     rt: &impl Print,
-    mut orders: generic::BTreeMap<(u64, u64), u64, C>,
+    orders: &mut generic::BTreeMap<(u64, u64), u64, C>,
 ) -> io::Result<()> {
     for (price, number, amount) in [(100, 1, 5), (99, 2, 3), (100, 3, 4)] {
         orders.insert((price, number), amount)?;
     }
-    let cancelled = cancel(&mut orders, 100, 1);
+    let cancelled = cancel(orders, 100, 1);
     rt.println(format_args!("cancelled: {}", cancelled.unwrap_or(0)))?;
     for wanted in [4, 1] {
-        let taken = take_best(&mut orders, wanted);
+        let taken = take_best(orders, wanted);
         rt.println(format_args!("taken: {taken}"))?;
     }
     for ((price, number), amount) in orders.iter() {
@@ -342,12 +342,12 @@ fn print_orders<C: NodesMut<(u64, u64), u64> + Drop>(
 }
 
 /// Prints what is read of two files, of which one has a line without a count.
-fn print_files<C: NodesMut<u32, u64> + Drop>(
+fn print_files<C: NodesMut<u32, u64>>(
     rt: &(impl Print + Files + AllocGlobal),
-    mut stock: generic::BTreeMap<u32, u64, C>,
+    stock: &mut generic::BTreeMap<u32, u64, C>,
 ) -> io::Result<()> {
     for path in ["parts.txt", "torn.txt"] {
-        match read_stock(rt, &mut stock, path) {
+        match read_stock(rt, stock, path) {
             Ok(()) => rt.println(format_args!("{path}: {} parts", stock.len()))?,
             Err(error) => rt.println(format_args!("{path}: {error}"))?,
         }
@@ -360,24 +360,29 @@ fn print_parts(rt: &impl Print, alloc: Global) -> io::Result<()> {
     let mut stock: BTreeMap<u32, u64> = BTreeMap::new(alloc);
     print_stock(rt, &mut stock)?;
     print_page(rt, alloc, &mut stock)?;
-    print_missing(rt, &stock, BTreeSet::new(alloc), BTreeSet::new(alloc))?;
+    print_missing(
+        rt,
+        &stock,
+        &mut BTreeSet::new(alloc),
+        &mut BTreeSet::new(alloc),
+    )?;
     print_copies(rt, stock)
 }
 
 /// Ranges of numbers.
 fn print_ranges(rt: &impl Print, alloc: Global) -> io::Result<()> {
-    print_blocks(rt, RangeSet::new(alloc))?;
-    print_memory(rt, RangeMap::new(alloc))?;
-    print_taken(rt, RangeMap::new(alloc))
+    print_blocks(rt, &mut RangeSet::new(alloc))?;
+    print_memory(rt, &mut RangeMap::new(alloc))?;
+    print_taken(rt, &mut RangeMap::new(alloc))
 }
 
 /// Maps with keys of several kinds, and a set.
 fn print_kinds(rt: &impl Print, alloc: Global) -> io::Result<()> {
     print_counts(rt, alloc)?;
-    print_texts(rt, alloc, BTreeMap::new(alloc))?;
-    print_log(rt, BTreeMap::new(alloc))?;
-    print_shelves(rt, alloc, BTreeSet::new(alloc))?;
-    print_orders(rt, BTreeMap::new(alloc))
+    print_texts(rt, alloc, &mut BTreeMap::new(alloc))?;
+    print_log(rt, &mut BTreeMap::new(alloc))?;
+    print_shelves(rt, alloc, &mut BTreeSet::new(alloc))?;
+    print_orders(rt, &mut BTreeMap::new(alloc))
 }
 
 fn main(rt: HostRuntime) -> io::Result<()> {
@@ -388,5 +393,5 @@ fn main(rt: HostRuntime) -> io::Result<()> {
     print_kinds(&rt, rt.alloc())?;
     print_visits(&rt)?;
     print_cache(&rt)?;
-    print_files(&rt, BTreeMap::new(rt.alloc()))
+    print_files(&rt, &mut BTreeMap::new(rt.alloc()))
 }
