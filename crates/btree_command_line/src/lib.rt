@@ -88,7 +88,8 @@ fn word_in<'a>(filled: Result<usize, FillError>, buffer: &'a [u8]) -> Option<Opt
     }
 }
 
-/// Returns what the arguments ask for, if it can read them: each has at most 1,024 bytes.
+/// Returns what the arguments ask for, if it can read them: each has at most 1,024 bytes. `Env` does not say what they are, and so no
+/// clause does.
 pub fn read_arguments(rt: &impl Env) -> Option<Setup> {
     let (mut first, mut second, mut third) = (
         [0; LONGEST_WORD],
