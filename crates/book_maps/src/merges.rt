@@ -44,7 +44,27 @@ fn compare<C: NodesMut<u64, ()>, D: NodesMut<u64, ()>>(
     reply.order(set.compare_items(copy));
 }
 
-// Merges a set with one over another store that has the elements of the other set.
+// Merges a set with one over another store.
+fn merge_with<C: NodesMut<u64, ()>, D: NodesMut<u64, ()>>(
+    set: &Set<C>,
+    copy: &Set<D>,
+    verb: &str,
+    reply: &mut Reply,
+) -> bool {
+    match verb {
+        "union" => put_merge(set.union(copy), reply),
+        "intersection" => put_merge(set.intersection(copy), reply),
+        "difference" => put_merge(set.difference(copy), reply),
+        "symmetric_difference" => put_merge(set.symmetric_difference(copy), reply),
+        "is_disjoint" => reply.truth(set.is_disjoint(copy)),
+        "is_subset" => reply.truth(set.is_subset(copy)),
+        "is_superset" => reply.truth(set.is_superset(copy)),
+        _ => return false,
+    }
+    true
+}
+
+// Merges a set with one over another store that has the elements of the other set, or compares them.
 fn merge<C: NodesMut<u64, ()>, D: NodesMut<u64, ()> + Drop>(
     set: &Set<C>,
     other: &Set<C>,
@@ -60,18 +80,11 @@ where
         reply.word("no memory");
         return true;
     }
-    match verb {
-        "union" => put_merge(set.union(&copy), reply),
-        "intersection" => put_merge(set.intersection(&copy), reply),
-        "difference" => put_merge(set.difference(&copy), reply),
-        "symmetric_difference" => put_merge(set.symmetric_difference(&copy), reply),
-        "is_disjoint" => reply.truth(set.is_disjoint(&copy)),
-        "is_subset" => reply.truth(set.is_subset(&copy)),
-        "is_superset" => reply.truth(set.is_superset(&copy)),
-        "compare" => compare(set, other, &copy, reply),
-        _ => return false,
+    if verb == "compare" {
+        compare(set, other, &copy, reply);
+        return true;
     }
-    true
+    merge_with(set, &copy, verb, reply)
 }
 
 fn extend<C: NodesMut<u64, ()>>(set: &mut Set<C>, elements: &[u64], reply: &mut Reply) {

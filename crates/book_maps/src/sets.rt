@@ -4,6 +4,7 @@ use book_map_calls::{Pick, picks, put_all, read_pick, walk, walk_known};
 use book_text::{Reply, high, low, number, word};
 use btree_node::{ClearNodes, CloneNodes, NodesMut};
 use btree_set::{BTreeSet, DrainFilter};
+use std::ops::Bound;
 
 type Set<C> = BTreeSet<u64, C>;
 
@@ -146,6 +147,23 @@ fn by_test<C: NodesMut<u64, ()>>(
     true
 }
 
+fn by_bounds<C: NodesMut<u64, ()>>(
+    set: &mut Set<C>,
+    verb: &str,
+    bounds: (Bound<&u64>, Bound<&u64>),
+    ends: &str,
+    reply: &mut Reply,
+) {
+    match verb {
+        "range" if set.is_valid_range(&bounds) => walk(set.range(bounds), ends, reply),
+        "range" => reply.word("not valid"),
+        _ => {
+            set.remove_range(bounds);
+            reply.word("ok")
+        }
+    }
+}
+
 fn ranges<C: NodesMut<u64, ()>>(
     set: &mut Set<C>,
     verb: &str,
@@ -157,15 +175,7 @@ fn ranges<C: NodesMut<u64, ()>>(
     let (Some(start), Some(end)) = (low(start), high(end)) else {
         return false;
     };
-    let bounds = (start.as_ref(), end.as_ref());
-    match verb {
-        "range" if set.is_valid_range(&bounds) => walk(set.range(bounds), ends, reply),
-        "range" => reply.word("not valid"),
-        _ => {
-            set.remove_range(bounds);
-            reply.word("ok")
-        }
-    }
+    by_bounds(set, verb, (start.as_ref(), end.as_ref()), ends, reply);
     true
 }
 

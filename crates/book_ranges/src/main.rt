@@ -41,7 +41,7 @@ fn check_arguments(rt: &impl Env) -> Result<(), Ending> {
 // A set and a map over two stores.
 type OverStores<A, B> = Pair<RangeSet<A>, RangeMap<u64, B>>;
 
-// Pairs over four kinds of stores.
+// Pairs over four kinds of stores: slabs, tables, slabs with odd numbers, and gates.
 type FourPairs<A, B, C, D, E, F, G, H> = Stores<
     OverStores<A, B>,
     OverStores<C, D>,
@@ -49,7 +49,7 @@ type FourPairs<A, B, C, D, E, F, G, H> = Stores<
     Gates<G, H>,
 >;
 
-// Returns a desk over each of four kinds of stores: slabs, tables, slabs with odd numbers, and gates.
+// Returns a desk over each of four kinds of stores.
 fn open_stores<
     A: ClearNodes<u64, u64, Origin = Global> + Drop,
     B: ClearNodes<u64, Span<u64>, Origin = Global> + Drop,
@@ -85,6 +85,25 @@ fn serve_desks<P: Desk + Drop, Q: Desk + Drop>(
     serve(rt.alloc(), memory, &mut desks, &mut input, &mut output)
 }
 
+// Serves the lines of standard input on two desks, the second one over stores from these origins.
+fn serve_refusing<
+    P: Desk + Drop,
+    A: ClearNodes<u64, u64> + Drop,
+    B: ClearNodes<u64, Span<u64>> + Drop,
+>(
+    rt: &(impl Print + Input + AllocGlobal),
+    memory: &Refusing<Global>,
+    plain: P,
+    origins: (A::Origin, B::Origin),
+) -> Result<(), Ending>
+where
+    A::Origin: Copy,
+    B::Origin: Copy,
+{
+    let refusing: OverStores<A, B> = set_out(origins);
+    serve_desks(rt, memory, plain, refusing)
+}
+
 // Serves the lines of standard input on two desks, the first one over four kinds of stores, and the second one over stores from these origins.
 fn serve_stores<
     A: ClearNodes<u64, u64, Origin = Global> + Drop,
@@ -107,8 +126,7 @@ where
     J::Origin: Copy,
 {
     let plain: FourPairs<A, B, C, D, E, F, G, H> = open_stores(rt.alloc());
-    let refusing: OverStores<I, J> = set_out(origins);
-    serve_desks(rt, memory, plain, refusing)
+    serve_refusing::<_, I, J>(rt, memory, plain, origins)
 }
 
 fn run(rt: &(impl Env + Input + Print + AllocGlobal)) -> Result<(), Ending> {

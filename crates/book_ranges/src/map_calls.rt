@@ -37,13 +37,22 @@ fn put_removal(outcome: Result<(), RangeRefused<u64>>, reply: &mut Reply) {
     }
 }
 
-fn whole<C: ClearNodes<u64, Span<u64>>>(map: &mut Map<C>, verb: &str, reply: &mut Reply) -> bool {
+// Serves a call that asks about the whole map.
+fn ask<C: NodesMut<u64, Span<u64>>>(map: &Map<C>, verb: &str, reply: &mut Reply) -> bool {
     match verb {
         "len" => reply.count(map.len()),
         "is_empty" => reply.truth(map.is_empty()),
         "nodes" => reply.count(map.store().len()),
         "list" => put_ranges(map.iter(), reply),
         "debug" => reply.shown(map),
+        _ => return false,
+    }
+    true
+}
+
+// Serves a call of the whole map.
+fn whole<C: ClearNodes<u64, Span<u64>>>(map: &mut Map<C>, verb: &str, reply: &mut Reply) -> bool {
+    match verb {
         "first" => put_range(map.first(), reply),
         "last" => put_range(map.last(), reply),
         "pop_first" => put_range(map.pop_first(), reply),
@@ -52,7 +61,7 @@ fn whole<C: ClearNodes<u64, Span<u64>>>(map: &mut Map<C>, verb: &str, reply: &mu
             map.clear();
             reply.word("ok")
         }
-        _ => return false,
+        _ => return ask(map, verb, reply),
     }
     true
 }
@@ -113,14 +122,31 @@ fn by_value<C: NodesMut<u64, Span<u64>>>(
     verb: &str,
     start: u64,
     end: u64,
-    value: u64,
+    value: &str,
     reply: &mut Reply,
 ) -> bool {
+    let Some(value) = number(value) else {
+        return false;
+    };
     match verb {
         "insert" => put_insertion(map.insert(start, end, value), reply),
         "update" => update(map, start, end, value, reply),
         _ => return false,
     }
+    true
+}
+
+fn first_fit<C: NodesMut<u64, Span<u64>>>(
+    map: &Map<C>,
+    start: u64,
+    end: u64,
+    size: &str,
+    reply: &mut Reply,
+) -> bool {
+    let Some(size) = number(size) else {
+        return false;
+    };
+    reply.value(map.first_fit(start, end, size));
     true
 }
 
@@ -133,18 +159,28 @@ fn between<C: NodesMut<u64, Span<u64>>>(
     rest: &str,
     reply: &mut Reply,
 ) -> bool {
-    if verb == "overlapping" {
-        walk_ranges(map.overlapping(start, end), rest, reply);
-        return true;
+    match verb {
+        "overlapping" => walk_ranges(map.overlapping(start, end), rest, reply),
+        "first_fit" => return first_fit(map, start, end, rest, reply),
+        _ if rest == "" => return by_numbers(map, verb, start, end, reply),
+        _ => return by_value(map, verb, start, end, rest, reply),
     }
-    match number(rest) {
-        Some(size) if verb == "first_fit" => {
-            reply.value(map.first_fit(start, end, size));
-            true
-        }
-        Some(value) => by_value(map, verb, start, end, value, reply),
-        None if rest == "" => by_numbers(map, verb, start, end, reply),
-        None => false,
+    true
+}
+
+// Serves a call with one number or two.
+fn with_numbers<C: NodesMut<u64, Span<u64>>>(
+    map: &mut Map<C>,
+    verb: &str,
+    words: &str,
+    reply: &mut Reply,
+) -> bool {
+    let (first, rest) = word(words);
+    let (second, rest) = word(rest);
+    match (number(first), number(second)) {
+        (Some(number), None) => by_number(map, verb, number, reply),
+        (Some(start), Some(end)) => between(map, verb, start, end, rest, reply),
+        _ => false,
     }
 }
 
@@ -162,11 +198,5 @@ pub(crate) fn serve_map<C: ClearNodes<u64, Span<u64>>>(
         walk_ranges(map.iter(), rest, reply);
         return true;
     }
-    let (first, rest) = word(rest);
-    let (second, rest) = word(rest);
-    match (number(first), number(second)) {
-        (Some(number), None) => by_number(map, verb, number, reply),
-        (Some(start), Some(end)) => between(map, verb, start, end, rest, reply),
-        _ => false,
-    }
+    with_numbers(map, verb, rest, reply)
 }

@@ -4,20 +4,29 @@ use book_text::{Reply, number, word};
 use btree_node::{ClearNodes, NodesMut};
 use btree_range_set::RangeSet;
 
-fn whole<C: ClearNodes<u64, u64>>(set: &mut RangeSet<C>, verb: &str, reply: &mut Reply) -> bool {
+// Serves a call that asks about the whole set.
+fn ask<C: NodesMut<u64, u64>>(set: &RangeSet<C>, verb: &str, reply: &mut Reply) -> bool {
     match verb {
         "len" => reply.count(set.len()),
         "is_empty" => reply.truth(set.is_empty()),
         "nodes" => reply.count(set.store().len()),
         "list" => put_ranges(set.iter(), reply),
         "debug" => reply.shown(set),
+        _ => return false,
+    }
+    true
+}
+
+// Serves a call of the whole set.
+fn whole<C: ClearNodes<u64, u64>>(set: &mut RangeSet<C>, verb: &str, reply: &mut Reply) -> bool {
+    match verb {
         "first" => put_range(set.first(), reply),
         "last" => put_range(set.last(), reply),
         "clear" => {
             set.clear();
             reply.word("ok")
         }
-        _ => return false,
+        _ => return ask(set, verb, reply),
     }
     true
 }
@@ -54,6 +63,20 @@ fn by_numbers<C: NodesMut<u64, u64>>(
     true
 }
 
+fn first_fit<C: NodesMut<u64, u64>>(
+    set: &RangeSet<C>,
+    start: u64,
+    end: u64,
+    size: &str,
+    reply: &mut Reply,
+) -> bool {
+    let Some(size) = number(size) else {
+        return false;
+    };
+    reply.value(set.first_fit(start, end, size));
+    true
+}
+
 // Serves a call with two numbers, and with ends or a size.
 fn between<C: NodesMut<u64, u64>>(
     set: &mut RangeSet<C>,
@@ -63,16 +86,27 @@ fn between<C: NodesMut<u64, u64>>(
     rest: &str,
     reply: &mut Reply,
 ) -> bool {
-    if verb == "overlapping" {
-        walk_ranges(set.overlapping(start, end), rest, reply);
-        return true;
+    match verb {
+        "overlapping" => walk_ranges(set.overlapping(start, end), rest, reply),
+        "first_fit" => return first_fit(set, start, end, rest, reply),
+        _ if rest == "" => return by_numbers(set, verb, start, end, reply),
+        _ => return false,
     }
-    match number(rest) {
-        Some(size) if verb == "first_fit" => {
-            reply.value(set.first_fit(start, end, size));
-            true
-        }
-        None if rest == "" => by_numbers(set, verb, start, end, reply),
+    true
+}
+
+// Serves a call with one number or two.
+fn with_numbers<C: NodesMut<u64, u64>>(
+    set: &mut RangeSet<C>,
+    verb: &str,
+    words: &str,
+    reply: &mut Reply,
+) -> bool {
+    let (first, rest) = word(words);
+    let (second, rest) = word(rest);
+    match (number(first), number(second)) {
+        (Some(number), None) => by_number(set, verb, number, reply),
+        (Some(start), Some(end)) => between(set, verb, start, end, rest, reply),
         _ => false,
     }
 }
@@ -91,11 +125,5 @@ pub(crate) fn serve_set<C: ClearNodes<u64, u64>>(
         walk_ranges(set.iter(), rest, reply);
         return true;
     }
-    let (first, rest) = word(rest);
-    let (second, rest) = word(rest);
-    match (number(first), number(second)) {
-        (Some(number), None) => by_number(set, verb, number, reply),
-        (Some(start), Some(end)) => between(set, verb, start, end, rest, reply),
-        _ => false,
-    }
+    with_numbers(set, verb, rest, reply)
 }

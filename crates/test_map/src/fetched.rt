@@ -85,16 +85,29 @@ fn expected(is_back: bool) -> (u64, u64) {
     if is_back { (15, 2) } else { (12, 1) }
 }
 
+// Walks over all of 44 items, from one end. That an iterator is made asks for nodes too, before the walk.
+fn check_walk<I: DoubleEndedIterator + Drop>(
+    rt: &impl Abort,
+    items: I,
+    is_back: bool,
+    asked: &Asked,
+)
+where
+    I::Item: Drop,
+    requires front { (state : I) → I.can_next state }
+    requires back { (state : I) → I.can_next_back state }
+{
+    walk(rt, items, is_back, 3, asked);
+    check(rt, is_back, asked, expected(is_back));
+}
+
 fn walk_map<C: NodesMut<u64, u64> + Drop>(rt: &impl Abort, origin: C::Origin, asked: &Asked) {
     let map = first_keys::<C>(rt, origin, 44);
+    asked.restart();
     for is_back in [false, true] {
-        asked.restart();
-        walk(rt, map.iter(), is_back, 3, asked);
-        check(rt, is_back, asked, expected(is_back));
-        walk(rt, map.keys(), is_back, 3, asked);
-        check(rt, is_back, asked, expected(is_back));
-        walk(rt, map.values(), is_back, 3, asked);
-        check(rt, is_back, asked, expected(is_back));
+        check_walk(rt, map.iter(), is_back, asked);
+        check_walk(rt, map.keys(), is_back, asked);
+        check_walk(rt, map.values(), is_back, asked);
     }
 }
 
@@ -102,10 +115,9 @@ fn walk_set<C: NodesMut<u64, ()> + Drop>(rt: &impl Abort, origin: C::Origin, ask
     let Ok(set) = BTreeSet::<u64, C>::from_iter(origin, &mut (0..44u64)) else {
         panic!(rt; "refused")
     };
+    asked.restart();
     for is_back in [false, true] {
-        asked.restart();
-        walk(rt, set.iter(), is_back, 3, asked);
-        check(rt, is_back, asked, expected(is_back));
+        check_walk(rt, set.iter(), is_back, asked);
     }
 }
 

@@ -28,8 +28,13 @@ fn counted<'a, K: Ord + Drop + Counting<'a>, C: NodesMut<K, ()>>(
     set
 }
 
-// Goes through a merge. Returns how many elements it yields, and how many steps compare two elements.
-fn steps_of<I: Iterator + Drop>(merge: I, compared: &Cell<u32>) -> (u32, u32)
+// Goes through a merge, and checks how many elements it yields, and how many steps compare two elements.
+fn check_merge<I: Iterator + Drop>(
+    rt: &impl Abort,
+    merge: I,
+    compared: &Cell<u32>,
+    expected: (u32, u32),
+)
 where
     I::Item: Drop,
     requires can { I.can_next merge }
@@ -40,7 +45,7 @@ where
     for _ in merge {
         yielded = yielded.wrapping_add(1);
     }
-    (yielded, compared.get())
+    assert_same(rt, (yielded, compared.get()), expected);
 }
 
 // Goes through each merge of two sets.
@@ -50,11 +55,10 @@ fn check_steps<K: Ord, C: NodesMut<K, ()>>(
     right: &BTreeSet<K, C>,
     compared: &Cell<u32>,
 ) {
-    assert_same(rt, steps_of(left.union(right), compared), (13, 13));
-    assert_same(rt, steps_of(left.intersection(right), compared), (4, 13));
-    assert_same(rt, steps_of(left.difference(right), compared), (6, 13));
-    let either = left.symmetric_difference(right);
-    assert_same(rt, steps_of(either, compared), (9, 13));
+    check_merge(rt, left.union(right), compared, (13, 13));
+    check_merge(rt, left.intersection(right), compared, (4, 13));
+    check_merge(rt, left.difference(right), compared, (6, 13));
+    check_merge(rt, left.symmetric_difference(right), compared, (9, 13));
 }
 
 // A merge compares nothing before its first step. The tests end at the first element that decides: 0 is in both, 2 only in the first set, and 3
