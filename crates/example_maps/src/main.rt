@@ -1,9 +1,10 @@
 //! Maps in use: a stock of parts, by part number, a listing of them by pages (`listing.rt`), a removal of those that are sold out
-//! (`sold_out.rt`), a part that gets another number (`renumbered.rt`), a stock read from a file (`lines.rt`), bookings of a room (`bookings.rt`, `booked.rt`), orders by price (`orders.rt`), a
-//! count of words (`words.rt`), one of strings by their texts (`texts.rt`), a log listed by minutes (`minutes.rt`), a count of visits in a
-//! fixed table (`visits.rt`), a cache of a bounded number of pairs (`cache.rt`), what threads may share (`shared.rt`), and a map read
-//! from a copy of its nodes (`copies.rt`). A set of pairs in use: the shelves on which parts lie (`shelves.rt`). A set of ranges in use:
-//! reserved blocks (`reserved.rt`). A map of ranges in use: who owns which addresses (`memory.rt`).
+//! (`sold_out.rt`), a part that gets another number (`renumbered.rt`), a stock read from a file (`lines.rt`), bookings of a room
+//! (`bookings.rt`, `booked.rt`), orders by price (`orders.rt`), a count of words (`words.rt`), one of strings by their texts (`texts.rt`), a
+//! log listed by minutes (`minutes.rt`), a count of visits in a fixed table (`visits.rt`), a cache of a bounded number of pairs
+//! (`cache.rt`), what threads may share (`shared.rt`), and a map read from a copy of its nodes (`copies.rt`). A set of pairs in use: the
+//! shelves on which parts lie (`shelves.rt`). A set of ranges in use: reserved blocks (`reserved.rt`). A map of ranges in use: who owns
+//! which addresses (`memory.rt`).
 #![tactic(auto)]
 
 ghost use Rattle.std.specs.Prelude.{◌≡◌, ◌+◌, OnOk, OnErr, unwrap_or};
