@@ -1,4 +1,5 @@
-//! The program `btree_script`, all but its `main`: its arguments, the replies to the lines of a reader, and how a run ends.
+//! The program `btree_script`, all but its `main`: its arguments, the replies to the lines of a reader, and how a run ends. `Env` does not
+//! say what the arguments are, so the clauses are met by some arguments; that they are those given is only tested.
 #![tactic(auto)]
 
 ghost use Rattle.std.specs.Prelude.{◌≡◌, ◌⊎◌, Err, Some, IfNone, IfSome, IsFalse, IsTrue};
@@ -88,8 +89,7 @@ fn word_in<'a>(filled: Result<usize, FillError>, buffer: &'a [u8]) -> Option<Opt
     }
 }
 
-/// Returns what the arguments ask for, if it can read them: each has at most 1,024 bytes. `Env` does not say what they are, and so no
-/// clause does.
+/// Returns what the arguments ask for, if it can read them: each has at most 1,024 bytes.
 pub fn read_arguments(rt: &impl Env) -> Option<Setup> {
     let (mut first, mut second, mut third) = (
         [0; LONGEST_WORD],
