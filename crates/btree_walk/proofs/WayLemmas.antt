@@ -31,6 +31,7 @@ module _ {K V : Type 0} (tree : TreeState K V) where
     pub under : (depth : ℕ) (b : (K × V) × ℕ) (row : List ((K × V) × ℕ)) → AreUnder depth (more b row) → Under depth b.1 × AreUnder depth row
 
 module _ {K V : Type 0} {tree : TreeState K V} (way : Way tree) where
+  -- what each ancestor has left
   abbrev pub rows_by : List (Ancestor K V) → List (List ((K × V) × ℕ))
   rows_by ancestors = map way.row_of ancestors
 
@@ -38,6 +39,7 @@ module _ {K V : Type 0} {tree : TreeState K V} (way : Way tree) where
   abbrev pub left : List (Ancestor K V) → List (K × V)
   left ancestors = way.in_rows (rows_by ancestors)
 
+  -- each child that is left lies one level below its ancestor, the first of which is the root
   abbrev pub AreOpen : List (Ancestor K V) → Type 0
   AreOpen ancestors = AreRows (node_map tree) (finite.len tree.nodes) 0 (rows_by ancestors)
 
