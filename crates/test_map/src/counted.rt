@@ -1,6 +1,5 @@
 //! Calls by key search once: at most six comparisons at each level, by keys that count them. An extension by ascending pairs
 //! or elements, or by copies of them, compares each with the last one alone. An entry and an editing cursor insert and remove without any.
-use crate::asserts::{assert_same, assert_same_in, assert_true, assert_true_in};
 use btree_ext::BTreeExt;
 use btree_item::{After, Before, Query};
 use btree_map::{BTreeMap, EntriesMut, Entry};
@@ -10,7 +9,7 @@ use btree_store::SlabStore;
 use std::cell::Cell;
 use std::ops::RangeBounds;
 use std::process::Abort;
-use test_support::Counted;
+use test_support::{Counted, assert_same, assert_same_in, assert_true, assert_true_in};
 
 /// A key or an element with a number, which counts how often it is compared.
 pub(crate) trait Counting<'a> {

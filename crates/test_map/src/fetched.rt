@@ -1,6 +1,5 @@
 //! How often each node is asked for to be read, by a store that counts it. 44 ascending keys have twelve nodes on three levels, with the
 //! numbers from 0 to 11.
-use crate::asserts::assert_same_in;
 use crate::samples::first_keys;
 use btree_map::BTreeMap;
 use btree_node::{Node, NodesMut};
@@ -9,7 +8,7 @@ use btree_store::SlabStore;
 use std::fmt::Debug;
 use std::iter::DoubleEndedIterator;
 use std::process::Abort;
-use test_support::{Asked, AskedStore};
+use test_support::{Asked, AskedStore, assert_same_in};
 
 type Store<'m, V> = AskedStore<'m, SlabStore<Node<u64, V>>>;
 

@@ -2,11 +2,11 @@
 #![tactic(auto)]
 
 #[cfg(test)]
-mod asserts;
-#[cfg(test)]
 mod callers;
 #[cfg(test)]
 mod counted;
+#[cfg(test)]
+mod counted_keys;
 #[cfg(test)]
 mod drains;
 #[cfg(test)]
@@ -34,8 +34,6 @@ mod own;
 mod owner;
 #[cfg(test)]
 mod queries;
-#[cfg(test)]
-mod released;
 #[cfg(test)]
 mod samples;
 

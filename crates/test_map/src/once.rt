@@ -1,7 +1,6 @@
 //! Sixteen keys and values of which each one's drops are counted: the n-th digit of a sum to base 16 says how often that of the number n was
 //! dropped. So one that is dropped twice does not make up for one that is not.
-use crate::asserts::{assert_same, assert_same_in, assert_true};
-use crate::released::{CountedKey, Weighed};
+use crate::counted_keys::{CountedKey, Weighed};
 use btree_item::Refused;
 use btree_map::{BTreeMap, Entry};
 use btree_node::{ClearNodes, Node, NodesMut};
@@ -10,7 +9,7 @@ use btree_store::SlabStore;
 use std::alloc::Global;
 use std::cell::Cell;
 use std::process::Abort;
-use test_support::{Refusing, RefusingStore};
+use test_support::{Refusing, RefusingStore, assert_same, assert_same_in, assert_true};
 
 type Pairs<K, C> = BTreeMap<K, K, C>;
 

@@ -1,5 +1,4 @@
 //! Maps over stores of one's own.
-use crate::asserts::{assert_same, assert_true, assert_true_in};
 use crate::fixed::check_table;
 use crate::samples::first_keys;
 use btree_ext::BTreeExt;
@@ -8,6 +7,7 @@ use btree_node::{Node, NodesMut};
 use btree_store::SlabMut;
 use example_stores::{OnePlace, VecStore};
 use std::process::Abort;
+use test_support::{assert_same, assert_true, assert_true_in};
 
 #[test]
 fn one_place_holds_one_leaf(rt: HostRuntime) {

@@ -6,13 +6,14 @@ ghost use Rattle.btree_internal.specs.Internal.{internal_view};
 ghost use Rattle.btree_node.specs.Node.{view_of};
 ghost use Rattle.btree_view.specs.View.{items_of};
 
-use crate::asserts::{assert_same_in, assert_true, assert_true_in};
 use btree_item::{Item, MAX_COMPARISONS, Offset};
 use btree_node::{InternalNode, LeafNode, Node};
 use btree_steps::Steps;
 use std::cell::Cell;
 use std::process::Abort;
-use test_support::{COMPARISONS, Counted, promised_comparisons};
+use test_support::{
+    COMPARISONS, Counted, assert_same_in, assert_true, assert_true_in, promised_comparisons,
+};
 
 // What a look-up in a node answers.
 type Place = Result<Offset, (usize, Option<usize>)>;

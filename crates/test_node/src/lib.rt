@@ -4,8 +4,6 @@
 #[cfg(test)]
 mod any_store;
 #[cfg(test)]
-mod asserts;
-#[cfg(test)]
 mod callers;
 #[cfg(test)]
 mod counted;

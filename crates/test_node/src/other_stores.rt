@@ -1,10 +1,10 @@
 //! A store that is full, one whose numbers are odd, and one that refuses one insertion.
-use crate::asserts::{assert_same, assert_same_in, assert_true, assert_true_in};
 use btree_more_stores::{FixedSlab, Gate, OddSlab};
 use btree_store::{Clear, Slab, SlabClone, SlabMut, SlabStore};
 use std::alloc::Global;
 use std::process::Abort;
 use std::test::Fail;
+use test_support::{assert_same, assert_same_in, assert_true, assert_true_in};
 
 // Inserts the values from 0 to 3, and returns those that are refused.
 fn refused_of_four<S: SlabMut<u32>>(store: &mut S, alloc: Global) -> Result<Vec<u32>, Fail> {

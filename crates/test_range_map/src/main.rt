@@ -2,17 +2,11 @@
 #![tactic(auto)]
 
 #[cfg(test)]
-mod asserts;
-#[cfg(test)]
 mod checks;
-#[cfg(test)]
-mod clones;
 #[cfg(test)]
 mod extension;
 #[cfg(test)]
 mod fmt;
-#[cfg(test)]
-mod kinds;
 #[cfg(test)]
 mod maps;
 #[cfg(test)]

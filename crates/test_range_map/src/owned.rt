@@ -1,11 +1,11 @@
 //! Maps whose values own memory.
-use crate::asserts::{assert_same, assert_true};
 use crate::texts::{IsText, Text};
 use btree_node::{Node, NodesMut};
 use btree_range_map::{RangeCause, RangeMap, Span};
 use btree_store::SlabStore;
 use std::alloc::Global;
 use std::process::Abort;
+use test_support::{assert_same, assert_true};
 
 type Heap = SlabStore<Node<u64, Span<Text>>>;
 
@@ -183,6 +183,7 @@ fn refuse<V: Clone + Eq + Drop + IsText, C: NodesMut<u64, Span<V>>>(
     assert_true(rt, map.remove(11, 19).is_err());
     assert_true(rt, map.insert(5, 12, value).is_ok());
     assert_true(rt, map.remove(18, 30).is_ok());
+    insert(rt, alloc, map, 14, 15, "old");
     check_texts(rt, map, &[(5, 12, "new"), (12, 18, "old")]);
 }
 

@@ -2,10 +2,6 @@
 #![tactic(auto)]
 
 #[cfg(test)]
-mod asserts;
-#[cfg(test)]
-mod changes;
-#[cfg(test)]
 mod checks;
 #[cfg(test)]
 mod extension;
@@ -17,5 +13,3 @@ mod owned;
 mod table;
 #[cfg(test)]
 mod two_sets;
-#[cfg(test)]
-mod two_tables;

@@ -1,11 +1,11 @@
 //! Ranges by value, and sets as text.
-use crate::asserts::{assert_same, assert_true};
 use btree_node::{Node, NodesMut};
 use btree_range_set::RangeSet;
 use btree_store::SlabStore;
 use std::alloc::Global;
 use std::process::Abort;
 use std::test::Fail;
+use test_support::{assert_same, assert_true};
 
 // Returns a set of 45 ranges, the i-th of which has 3i and 3i + 1.
 fn twos<C: NodesMut<u64, u64> + Drop>(rt: &impl Abort, origin: C::Origin) -> RangeSet<C> {
@@ -30,20 +30,6 @@ fn take_from_both_ends<C: NodesMut<u64, u64> + Drop>(rt: &impl Abort, origin: C:
     assert_same(rt, (ranges.len(), ranges.size_hint()), (0, (0, Some(0))));
 }
 
-// Takes some ranges of one end, and drops the rest.
-fn take_some<C: NodesMut<u64, u64> + Drop>(rt: &impl Abort, origin: C::Origin, is_back: bool) {
-    let mut ranges = twos::<C>(rt, origin).into_iter();
-    for i in 0..20 {
-        if is_back {
-            let back = 132 - 3 * i;
-            assert_same(rt, ranges.next_back(), Some((back, back + 2)));
-        } else {
-            assert_same(rt, ranges.next(), Some((3 * i, 3 * i + 2)));
-        }
-    }
-    assert_same(rt, ranges.len(), 25);
-}
-
 // Takes the ranges in a loop, and those of a set that has none.
 fn take_in_a_loop<C: NodesMut<u64, u64> + Drop>(
     rt: &impl Abort,
@@ -64,8 +50,6 @@ fn take_in_a_loop<C: NodesMut<u64, u64> + Drop>(
 #[test]
 fn takes_ranges(rt: HostRuntime) {
     take_from_both_ends::<SlabStore<Node<u64, u64>>>(&rt, rt.alloc());
-    take_some::<SlabStore<Node<u64, u64>>>(&rt, rt.alloc(), false);
-    take_some::<SlabStore<Node<u64, u64>>>(&rt, rt.alloc(), true);
     take_in_a_loop::<SlabStore<Node<u64, u64>>>(
         &rt,
         twos(&rt, rt.alloc()),

@@ -1,5 +1,4 @@
 //! Lists of two hundred calls, against a table of truth values.
-use crate::asserts::{assert_same, assert_true};
 use btree_item::{Cause, Refused};
 use btree_more_stores::{FixedSlab, Gate, OddSlab};
 use btree_node::{Node, NodesMut};
@@ -8,9 +7,10 @@ use btree_store::{SlabMut, SlabStore};
 use std::alloc::Global;
 use std::process::Abort;
 use std::test::Fail;
+use test_support::{assert_same, assert_true};
 
 // Writes a value for the numbers from `start` up to `end`.
-pub(crate) fn write(table: &mut [bool; 64], start: u64, end: u64, is: bool) {
+fn write(table: &mut [bool; 64], start: u64, end: u64, is: bool) {
     let mut number = 0u64;
     for entry in table.iter_mut() {
         if start <= number && number < end {
@@ -34,11 +34,7 @@ fn count_runs(table: &[bool; 64]) -> usize {
 }
 
 // Checks which numbers are in the set, by `contains` and by its ranges, which are as many as there are runs.
-pub(crate) fn check_table<C: NodesMut<u64, u64>>(
-    rt: &impl Abort,
-    set: &RangeSet<C>,
-    table: &[bool; 64],
-) {
+fn check_table<C: NodesMut<u64, u64>>(rt: &impl Abort, set: &RangeSet<C>, table: &[bool; 64]) {
     let mut listed = [false; 64];
     for (start, end) in set.iter() {
         write(&mut listed, start, end, true);
@@ -107,10 +103,7 @@ fn agrees_with_a_table(rt: HostRuntime) {
 }
 
 // Returns an empty set whose store refuses one allocation.
-pub(crate) fn gated_set(
-    alloc: Global,
-    refuses_at: usize,
-) -> RangeSet<Gate<SlabStore<Node<u64, u64>>>> {
+fn gated_set(alloc: Global, refuses_at: usize) -> RangeSet<Gate<SlabStore<Node<u64, u64>>>> {
     let nodes = <SlabStore<Node<u64, u64>> as SlabMut<Node<u64, u64>>>::empty(alloc);
     RangeSet::in_store(Gate::over(nodes, refuses_at))
 }

@@ -1,13 +1,12 @@
 //! A set that is changed by another one, and two that are compared.
-use crate::asserts::assert_true;
-use crate::changes::{Change, change_set};
 use crate::checks::{EIGHT, check_ranges, check_refused, fill};
-use btree_item::Cause;
+use btree_item::{Cause, Refused};
 use btree_more_stores::{FixedSlab, OddSlab};
 use btree_node::{ClearNodes, CloneNodes, Node, NodesMut};
 use btree_range_set::RangeSet;
 use btree_store::SlabStore;
 use std::process::Abort;
+use test_support::assert_true;
 
 type Ranges = &'static [(u64, u64)];
 
@@ -82,6 +81,27 @@ fn changes_by_another_set(rt: HostRuntime) {
         RangeSet::new(rt.alloc()),
         RangeSet::new(rt.alloc()),
     );
+}
+
+// A change by another set.
+#[derive(Clone, Copy)]
+enum Change {
+    Union,
+    Difference,
+    Intersection,
+}
+
+// Makes the change.
+fn change_set<C: NodesMut<u64, u64>, D: NodesMut<u64, u64>>(
+    set: &mut RangeSet<C>,
+    other: &RangeSet<D>,
+    change: Change,
+) -> Result<(), Refused<u64, u64>> {
+    match change {
+        Change::Union => set.union_with(other),
+        Change::Difference => set.difference_with(other),
+        Change::Intersection => set.intersect_with(other),
+    }
 }
 
 // How a set of the ranges `EIGHT`, which may have no ninth, is changed by another one: the ranges of the other, the numbers that are refused, and

@@ -2,7 +2,6 @@
 ghost use Rattle.std.specs.Mem.{FitsInMemory};
 ghost use Rattle.btree_node.specs.contracts.node.Node.{the_row as node_row};
 
-use crate::asserts::{assert_same, assert_true, given};
 use crate::maps::check_same;
 use btree_map::BTreeMap;
 use btree_more_stores::{Fill, SlotStore};
@@ -12,6 +11,7 @@ use btree_spelled::Spelled;
 use std::alloc::Global;
 use std::fmt::Debug;
 use std::process::Abort;
+use test_support::{assert_same, assert_true, given};
 
 // The nodes of a map, in slots.
 type SlotsOf<K, V> = SlotStore<Node<K, V>>;
@@ -40,18 +40,6 @@ fn check_kind<
 fn pairs_to_nothing(rt: HostRuntime) {
     let pairs = [(('z', -1), ()), (('a', i32::MIN), ()), (('z', -2), ())];
     check_kind::<_, _, SlotsOf<(char, i32), ()>>(&rt, rt.alloc(), &pairs, 80 + 3 * 8);
-}
-
-#[test]
-fn bytes_to_arrays(rt: HostRuntime) {
-    let pairs = [(3u8, [1u8, 2, 3]), (0, [0, 0, 255]), (255, [9, 9, 9])];
-    check_kind::<_, _, SlotsOf<u8, [u8; 3]>>(&rt, rt.alloc(), &pairs, 80 + 3 * 4);
-}
-
-#[test]
-fn signed_numbers_to_long_ones(rt: HostRuntime) {
-    let pairs = [(-1i64, u128::MAX), (i64::MIN, 0), (5, 1 << 100)];
-    check_kind::<_, _, SlotsOf<i64, u128>>(&rt, rt.alloc(), &pairs, 80 + 3 * 24);
 }
 
 #[test]

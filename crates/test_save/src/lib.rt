@@ -2,8 +2,6 @@
 #![tactic(auto)]
 
 #[cfg(test)]
-mod asserts;
-#[cfg(test)]
 mod hostile;
 #[cfg(test)]
 mod kinds;
@@ -21,8 +19,6 @@ mod rows;
 mod spellings;
 #[cfg(test)]
 mod streams;
-#[cfg(test)]
-mod tables;
 #[cfg(test)]
 mod verdicts;
 #[cfg(test)]

@@ -1,18 +1,9 @@
 //! Images whose nodes are linked in any way: with cycles, with children of two nodes, and with children that are not there.
-use crate::asserts::assert_same;
-use crate::hostile::next;
 use crate::verdicts::{Tally, Verdict, tried};
 use crate::words::{MAGIC, NONE, add_sum, bytes_of_words, put_word};
 use std::alloc::Global;
 use std::process::Abort;
-
-// The number of one of five nodes, of which the last is not there, or none.
-fn drawn_id(state: u64) -> u64 {
-    match (state >> 33) % 6 {
-        5 => NONE,
-        id => id,
-    }
-}
+use test_support::assert_same;
 
 // Appends a leaf with three items.
 fn put_leaf(rt: &impl Abort, bytes: &mut Vec<u8>, parent: u64, least: u64) {
@@ -32,39 +23,6 @@ fn put_internal(
     for word in [2, parent, 1, first, key, 0, second] {
         put_word(rt, bytes, word);
     }
-}
-
-// Returns the image of four nodes, of which the first two are internal. The list gives root, parents and children.
-fn linked(rt: &impl Abort, alloc: Global, list: u64) -> Vec<u8> {
-    let a = next(list);
-    let b = next(a);
-    let c = next(b);
-    let d = next(c);
-    let e = next(d);
-    let f = next(e);
-    let mut bytes = bytes_of_words(rt, alloc, &[MAGIC, 1, drawn_id(a), 8, NONE, 4]);
-    put_internal(rt, &mut bytes, drawn_id(b), (drawn_id(c), 3, drawn_id(d)));
-    put_internal(
-        rt,
-        &mut bytes,
-        drawn_id(e),
-        (drawn_id(f), 7, drawn_id(next(f))),
-    );
-    put_leaf(rt, &mut bytes, drawn_id(a >> 8), 0);
-    put_leaf(rt, &mut bytes, drawn_id(b >> 8), 4);
-    add_sum(rt, &mut bytes);
-    bytes
-}
-
-// Each of them is an image, and no tree: four children are named, of three nodes at most.
-#[test]
-fn nodes_are_linked_in_any_way(rt: HostRuntime) {
-    let mut tally = Tally::NONE;
-    for list in 0..2000 {
-        let bytes = linked(&rt, rt.alloc(), list);
-        tally.count(&rt, tried(&rt, rt.alloc(), &bytes));
-    }
-    assert_same(&rt, (tally.opened, tally.images, tally.trees), (0, 0, 2000));
 }
 
 // Returns the image of an internal node and two leaves, with this root, these parents and these children.

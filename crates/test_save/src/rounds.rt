@@ -1,5 +1,4 @@
 //! Maps that are saved and opened.
-use crate::asserts::{assert_same, assert_true, given};
 use crate::maps::{Slots, check_squares, squares};
 use btree_ext::{BTreeExt, BTreeExtMut};
 use btree_item::Address;
@@ -10,21 +9,7 @@ use btree_save::{bytes_of_map, map_of_bytes, open, save};
 use std::alloc::Global;
 use std::io::Cursor;
 use std::process::Abort;
-
-// Checks that two maps have the same nodes at the top, and each of these keys at the same address.
-fn check_addresses<C: NodesMut<u64, u64>>(
-    rt: &impl Abort,
-    left: &BTreeMap<u64, u64, C>,
-    right: &BTreeMap<u64, u64, C>,
-    count: u64,
-) {
-    assert_same(rt, right.root_id(), left.root_id());
-    assert_same(rt, right.height(), left.height());
-    assert_same(rt, right.node_count(), left.node_count());
-    for key in 0..count {
-        assert_same(rt, right.address_of(&key), left.address_of(&key));
-    }
-}
+use test_support::{assert_same, assert_true, given};
 
 // Saves a map and opens it. It is the same, and is saved as the same bytes.
 fn check_round<C: Fill<Node<u64, u64>, Origin = Global> + Drop>(
@@ -36,7 +21,6 @@ fn check_round<C: Fill<Node<u64, u64>, Origin = Global> + Drop>(
     let bytes = given(rt, bytes_of_map(alloc, &map));
     let again: BTreeMap<u64, u64, C> = given(rt, map_of_bytes(alloc, &bytes));
     check_squares(rt, &again, count);
-    check_addresses(rt, &map, &again, count);
     let twice = given(rt, bytes_of_map(alloc, &again));
     assert_same(rt, twice.as_slice(), bytes.as_slice());
 }

@@ -1,15 +1,16 @@
 //! Files whose bytes and faults are known by hand.
-use crate::asserts::{assert_same, assert_same_in, assert_true, given};
 use crate::maps::Slots;
-use crate::verdicts::{Verdict, tried};
+use crate::verdicts::{Verdict, tried, tried_in};
 use crate::words::{MAGIC, NONE, bytes_of_words, file_of, put_word};
 use btree_image::BadImage;
 use btree_item::Fault;
 use btree_map::BTreeMap;
-use btree_node::NodesMut;
+use btree_more_stores::FixedSlab;
+use btree_node::{Node, NodesMut};
 use btree_save::bytes_of_map;
 use std::alloc::Global;
 use std::process::Abort;
+use test_support::{assert_same, assert_same_in, assert_true, given};
 
 // The file {7: 49}: root 0, length 1, no limit, one place, a leaf without a parent, one item.
 const ONE_PAIR: [u64; 11] = [MAGIC, 1, 0, 1, NONE, 1, 1, NONE, 1, 7, 49];
@@ -143,4 +144,20 @@ fn trees_have_their_faults(rt: HostRuntime) {
     check_file(&rt, alloc, &ROOTLESS, Verdict::Tree(Fault::Unreachable));
     check_file(&rt, alloc, &CYCLE, Verdict::Tree(Fault::WrongParent));
     check_file(&rt, alloc, &SHARED, Verdict::Tree(Fault::AboveSeparator));
+}
+
+type Table<const N: usize> = FixedSlab<Node<u64, u64>, N>;
+
+// The map {7: 49}, whose node has number 5: the five places before it are vacant.
+const AT_FIVE: [u64; 16] = [MAGIC, 1, 5, 1, NONE, 6, 0, 0, 0, 0, 0, 1, NONE, 1, 7, 49];
+
+#[test]
+fn a_table_refuses_numbers_past_its_end(rt: HostRuntime) {
+    let file = file_of(&rt, rt.alloc(), &AT_FIVE);
+    let found = tried_in::<Table<6>>(&rt, rt.alloc(), (), &file);
+    assert_same(&rt, found, Verdict::Opened);
+    let found = tried_in::<Table<5>>(&rt, rt.alloc(), (), &file);
+    assert_same(&rt, found, Verdict::Store);
+    let found = tried(&rt, rt.alloc(), &file);
+    assert_same(&rt, found, Verdict::Opened);
 }

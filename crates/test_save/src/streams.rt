@@ -1,6 +1,5 @@
 //! Readers and writers that fail, and memory that is refused.
-use crate::asserts::{assert_same, assert_same_in, assert_true, given};
-use crate::maps::{Slots, check_squares, saved_squares, squares};
+use crate::maps::{Slots, saved_squares, squares};
 use crate::verdicts::{Verdict, verdict_of};
 use btree_map::BTreeMap;
 use btree_more_stores::{Fill, SlotStore};
@@ -8,9 +7,9 @@ use btree_node::{Node, NodesMut};
 use btree_save::{SaveError, bytes_of_map, map_of_bytes, open, save};
 use std::alloc::Global;
 use std::io;
-use std::io::{Cursor, ErrorKind, Read, Write};
+use std::io::{ErrorKind, Read, Write};
 use std::process::Abort;
-use test_support::Refusing;
+use test_support::{Refusing, assert_same, assert_same_in, assert_true, given};
 
 // Gives a byte at each read, and fails in place of the byte at `cut`.
 #[derive(Drop)]
@@ -216,24 +215,4 @@ fn memory_for_the_nodes_is_refused(rt: HostRuntime) {
     let bytes = saved_squares::<Slots>(&rt, rt.alloc(), rt.alloc(), 44);
     let memory = Refusing::over(rt.alloc(), 0);
     open_without_memory::<Refused>(&rt, &memory, &bytes);
-}
-
-// Saves two maps one after the other, and opens each from its part.
-fn append_squares<C: Fill<Node<u64, u64>, Origin = Global> + Drop>(rt: &impl Abort, alloc: Global) {
-    let mut file = Vec::new(alloc);
-    given(rt, save(alloc, &squares::<C>(rt, alloc, 3), &mut file));
-    let seam = file.len();
-    given(rt, save(alloc, &squares::<C>(rt, alloc, 44), &mut file));
-    assert_true(rt, seam <= file.len());
-    let (front, rest) = file.split_at(seam);
-    let again: BTreeMap<u64, u64, C> = given(rt, map_of_bytes(alloc, front));
-    check_squares(rt, &again, 3);
-    let mut input = Cursor::new(rest);
-    let again: BTreeMap<u64, u64, C> = given(rt, open(alloc, alloc, &mut input));
-    check_squares(rt, &again, 44);
-}
-
-#[test]
-fn appends_to_a_writer(rt: HostRuntime) {
-    append_squares::<Slots>(&rt, rt.alloc());
 }

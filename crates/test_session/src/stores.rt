@@ -1,5 +1,4 @@
 //! Lines over a table of nodes, and over a store with odd numbers.
-use crate::asserts::{assert_same, assert_true, assert_true_in};
 use btree_ext::BTreeExt;
 use btree_item::Address;
 use btree_more_stores::{FixedSlab, OddSlab};
@@ -9,6 +8,7 @@ use btree_store::SlabMut;
 use std::alloc::Global;
 use std::process::Abort;
 use std::test::Fail;
+use test_support::{assert_same, assert_true, assert_true_in};
 
 type Odd = OddSlab<Node<u64, u64>>;
 

@@ -9,7 +9,6 @@ ghost use Rattle.btree_laws.specs.TreeState.{IsUsed};
 ghost use Rattle.btree_find.specs.Fits.{FitsIn};
 ghost use Rattle.btree_find.specs.Levels.{comparisons_from};
 
-use crate::asserts::{assert_same, assert_same_in, assert_true, assert_true_in};
 use btree_ext::{BTreeExt, BTreeExtMut, Tree};
 use btree_item::{Address, Offset};
 use btree_node::{Node, NodesMut};
@@ -17,7 +16,10 @@ use btree_steps::Steps;
 use btree_store::SlabStore;
 use std::cell::Cell;
 use std::process::Abort;
-use test_support::{COMPARISONS, Counted, promised_comparisons};
+use test_support::{
+    COMPARISONS, Counted, assert_same, assert_same_in, assert_true, assert_true_in,
+    promised_comparisons,
+};
 
 type Store<'a> = SlabStore<Node<Counted<'a>, u32>>;
 

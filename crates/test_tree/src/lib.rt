@@ -2,7 +2,5 @@
 #![tactic(auto)]
 
 #[cfg(test)]
-mod asserts;
-#[cfg(test)]
 mod counted;
 pub mod visits;
