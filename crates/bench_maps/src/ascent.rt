@@ -7,11 +7,11 @@ use std::alloc::AllocError;
 pub fn ascend<C: NodesMut<u64, u64>>(
     map: &mut BTreeMap<u64, u64, C>,
     from: &BTreeMap<u64, u64, C>,
-) -> Result<usize, AllocError> {
+) -> Result<u64, AllocError> {
     for (key, value) in from.iter() {
         map.insert(*key, *value)?;
     }
-    Ok(map.len())
+    Ok(map.len() as u64)
 }
 
 /// Makes a map of the pairs of another one by `from_iter`.
@@ -23,5 +23,15 @@ pub fn collect<C: NodesMut<u64, u64> + Drop>(
     match BTreeMap::<u64, u64, C>::from_iter(origin, &mut pairs) {
         Ok(map) => Ok(map),
         Err((_, refused)) => Err(refused.into()),
+    }
+}
+
+/// Returns the length of a map that was made, or that it was not.
+pub fn length<C: NodesMut<u64, u64>>(
+    made: &Result<BTreeMap<u64, u64, C>, AllocError>,
+) -> Result<u64, AllocError> {
+    match made {
+        Ok(map) => Ok(map.len() as u64),
+        Err(_) => Err(AllocError),
     }
 }

@@ -56,7 +56,7 @@ fn put_first<C: NodesMut<u64, u64>>(
 pub fn descend_at<C: NodesMut<u64, u64>>(
     map: &mut BTreeMap<u64, u64, C>,
     count: u64,
-) -> Result<usize, AllocError>
+) -> Result<u64, AllocError>
     requires { pairs_of map.old ≡ [] }
 {
     if count == 0 {
@@ -68,5 +68,5 @@ pub fn descend_at<C: NodesMut<u64, u64>>(
         at = put_before(map, at, first - 1, first)?;
         first -= 1;
     }
-    Ok(map.len())
+    Ok(map.len() as u64)
 }

@@ -11,14 +11,16 @@ mod descent;
 mod random;
 mod range_maps;
 mod ranges;
+mod report;
 mod spans;
 mod tables;
 
-use crate::ascent::{ascend, collect};
+use crate::ascent::{ascend, collect, length};
 use crate::descent::{descend, descend_at};
 use crate::random::{Numbers, drawn, shuffle};
 use crate::range_maps::{assign_and_remove, sum_values};
 use crate::ranges::sum_ranges;
+use crate::report::Report;
 use crate::spans::{KitSpans, Spans, add_and_subtract};
 use crate::tables::{FixedNodes, Fresh, KitMap, SlabMap, SlabNodes, SpanNodes, Table};
 use btree_map::BTreeMap;
@@ -28,7 +30,7 @@ use btree_range_set::RangeSet;
 use std::alloc::{AllocError, Global};
 use std::env::Env;
 use std::process::ExitCode;
-use std::time::{Clock, Instant};
+use std::time::Clock;
 use std::{env, io};
 
 // The keys in the order of their insertion, the same keys in the order of their look-up, and keys that are absent.
@@ -87,268 +89,210 @@ fn take_all(table: &mut impl Table, keys: &[u64]) -> u64 {
     sum
 }
 
-fn report(
-    rt: &(impl Print + Clock),
-    is_timed: bool,
-    (map, phase): (&str, &str),
-    since: Instant,
-    sum: u64,
-) -> io::Result<()> {
-    let nanos = since.elapsed(rt)?.as_nanos();
-    if is_timed {
-        rt.println(format_args!("{map}.{phase} {nanos} {sum}"))
-    } else {
-        rt.println(format_args!("{map}.{phase} {sum}"))
-    }
-}
-
 fn measure_look_ups(
     rt: &(impl Print + Clock),
-    is_timed: bool,
+    report: &mut Report,
     map: &str,
     table: &mut impl Table,
     keys: &Keys,
-) -> io::Result<()> {
-    let since = Instant::now(rt)?;
-    let sum = put_all(table, keys.put.as_slice())?;
-    report(rt, is_timed, (map, "insert"), since, sum)?;
-    let since = Instant::now(rt)?;
+) {
+    report.begin(rt);
+    let present = put_all(table, keys.put.as_slice());
+    report.end(rt, (map, "insert"), present);
+    report.begin(rt);
     let sum = sum_at(table, keys.present.as_slice());
-    report(rt, is_timed, (map, "get_present"), since, sum)?;
-    let since = Instant::now(rt)?;
+    report.end(rt, (map, "get_present"), Ok(sum));
+    report.begin(rt);
     let sum = sum_at(table, keys.absent.as_slice());
-    report(rt, is_timed, (map, "get_absent"), since, sum)
+    report.end(rt, (map, "get_absent"), Ok(sum));
 }
 
 fn measure<T: Table + Drop>(
     rt: &(impl Print + Clock),
-    is_timed: bool,
+    report: &mut Report,
     map: &str,
     mut table: T,
     keys: &Keys,
-) -> io::Result<()> {
-    measure_look_ups(rt, is_timed, map, &mut table, keys)?;
-    let since = Instant::now(rt)?;
+) {
+    measure_look_ups(rt, report, map, &mut table, keys);
+    report.begin(rt);
     let sum = table.sum();
-    report(rt, is_timed, (map, "iterate"), since, sum)?;
-    let since = Instant::now(rt)?;
+    report.end(rt, (map, "iterate"), Ok(sum));
+    report.begin(rt);
     let sum = table.sum_back();
-    report(rt, is_timed, (map, "iterate_back"), since, sum)?;
-    let since = Instant::now(rt)?;
+    report.end(rt, (map, "iterate_back"), Ok(sum));
+    report.begin(rt);
     let sum = take_all(&mut table, keys.present.as_slice());
-    report(rt, is_timed, (map, "remove"), since, sum)
+    report.end(rt, (map, "remove"), Ok(sum));
 }
 
 // Insertion and look-up alone.
 fn measure_fixed<C: NodesMut<u64, u64> + Drop>(
     rt: &(impl Print + Clock),
-    is_timed: bool,
+    report: &mut Report,
     origin: C::Origin,
     keys: &Keys,
-) -> io::Result<()> {
+) {
     let mut table: BTreeMap<u64, u64, C> = BTreeMap::new(origin);
-    measure_look_ups(rt, is_timed, "fixed", &mut table, keys)
+    measure_look_ups(rt, report, "fixed", &mut table, keys);
 }
 
 fn measure_descent<T: Table + Drop>(
     rt: &(impl Print + Clock),
-    is_timed: bool,
+    report: &mut Report,
     map: &str,
     mut table: T,
     count: u64,
-) -> io::Result<()> {
-    let since = Instant::now(rt)?;
-    let absent = descend(&mut table, count)?;
-    report(rt, is_timed, (map, "descend"), since, absent)
+) {
+    report.begin(rt);
+    let absent = descend(&mut table, count);
+    report.end(rt, (map, "descend"), absent);
 }
 
 fn measure_descent_at<C: NodesMut<u64, u64> + Drop>(
     rt: &(impl Print + Clock),
-    is_timed: bool,
+    report: &mut Report,
     origin: C::Origin,
     count: u64,
-) -> io::Result<()> {
+) {
     let mut ours: BTreeMap<u64, u64, C> = BTreeMap::new(origin);
-    let since = Instant::now(rt)?;
-    let len = descend_at(&mut ours, count)?;
-    report(
-        rt,
-        is_timed,
-        ("btree_slab", "descend_at"),
-        since,
-        len as u64,
-    )
+    report.begin(rt);
+    let len = descend_at(&mut ours, count);
+    report.end(rt, ("btree_slab", "descend_at"), len);
 }
 
 // From each key on, a range that has about ten pairs.
 fn measure_ranges<C: NodesMut<u64, u64> + Drop>(
     rt: &(impl Print + Clock),
-    is_timed: bool,
+    report: &mut Report,
     origin: C::Origin,
     keys: &Keys,
-) -> io::Result<()> {
+) {
     let mut ours: BTreeMap<u64, u64, C> = BTreeMap::new(origin);
-    let _present = put_all(&mut ours, keys.put.as_slice())?;
+    report.note(put_all(&mut ours, keys.put.as_slice()));
     let width = (u64::MAX / (keys.put.len() as u64).max(1)).saturating_mul(9);
-    let since = Instant::now(rt)?;
+    report.begin(rt);
     let sum = sum_ranges(&ours, keys.present.as_slice(), width);
-    report(rt, is_timed, ("btree_slab", "range_ten"), since, sum)
+    report.end(rt, ("btree_slab", "range_ten"), Ok(sum));
 }
 
-// The pairs of a map inserted into an empty one in order, each by its key.
-fn measure_ascent<C: NodesMut<u64, u64> + Drop>(
-    rt: &(impl Print + Clock),
-    is_timed: bool,
-    mut map: BTreeMap<u64, u64, C>,
-    from: &BTreeMap<u64, u64, C>,
-) -> io::Result<()> {
-    let since = Instant::now(rt)?;
-    let len = ascend(&mut map, from)? as u64;
-    report(rt, is_timed, ("btree_slab", "ascend"), since, len)
-}
-
-// The same pairs made a map by one call.
-fn measure_collect<C: NodesMut<u64, u64> + Drop>(
-    rt: &(impl Print + Clock),
-    is_timed: bool,
-    origin: C::Origin,
-    from: &BTreeMap<u64, u64, C>,
-) -> io::Result<()>
-where
-    C::Origin: Copy,
-{
-    let since = Instant::now(rt)?;
-    let map = collect(origin, from)?;
-    report(
-        rt,
-        is_timed,
-        ("btree_slab", "collect"),
-        since,
-        map.len() as u64,
-    )
-}
-
+// The pairs of a map inserted into an empty one in order, each by its key, and the same pairs made a map by one call.
 fn measure_ascents<C: NodesMut<u64, u64> + Drop>(
     rt: &(impl Print + Clock),
-    is_timed: bool,
+    report: &mut Report,
     origin: C::Origin,
     keys: &Keys,
-) -> io::Result<()>
+)
 where
     C::Origin: Copy,
 {
     let mut from: BTreeMap<u64, u64, C> = BTreeMap::new(origin);
-    let _present = put_all(&mut from, keys.put.as_slice())?;
-    measure_ascent(rt, is_timed, BTreeMap::new(origin), &from)?;
-    measure_collect(rt, is_timed, origin, &from)
+    report.note(put_all(&mut from, keys.put.as_slice()));
+    let mut map: BTreeMap<u64, u64, C> = BTreeMap::new(origin);
+    report.begin(rt);
+    let len = ascend(&mut map, &from);
+    report.end(rt, ("btree_slab", "ascend"), len);
+    report.begin(rt);
+    let made = collect(origin, &from);
+    report.end(rt, ("btree_slab", "collect"), length(&made));
 }
 
 // Both ends of an iterator that owns its map, each of a new one.
 fn measure_owned<T: Table + Drop>(
     rt: &(impl Print + Clock),
-    is_timed: bool,
+    report: &mut Report,
     map: &str,
     (table, other): (T, T),
     keys: &Keys,
-) -> io::Result<()> {
+) {
     let (mut table, mut other) = (table, other);
-    let _present = put_all(&mut table, keys.put.as_slice())?;
-    let since = Instant::now(rt)?;
+    report.note(put_all(&mut table, keys.put.as_slice()));
+    report.begin(rt);
     let sum = table.into_sum();
-    report(rt, is_timed, (map, "consume"), since, sum)?;
-    let _present = put_all(&mut other, keys.put.as_slice())?;
-    let since = Instant::now(rt)?;
+    report.end(rt, (map, "consume"), Ok(sum));
+    report.note(put_all(&mut other, keys.put.as_slice()));
+    report.begin(rt);
     let sum = other.into_sum_back();
-    report(rt, is_timed, (map, "consume_back"), since, sum)
+    report.end(rt, (map, "consume_back"), Ok(sum));
 }
 
 // The widths of all ranges together are those of all numbers.
 fn measure_spans<S: Spans + Drop>(
     rt: &(impl Print + Clock),
-    is_timed: bool,
+    report: &mut Report,
     map: &str,
     mut set: S,
     keys: &Keys,
-) -> io::Result<()> {
+) {
     let width = u64::MAX / (keys.put.len() as u64).max(1);
-    let since = Instant::now(rt)?;
-    let count = add_and_subtract(&mut set, keys.put.as_slice(), width)? as u64;
-    report(rt, is_timed, (map, "range_set"), since, count)
+    report.begin(rt);
+    let count = add_and_subtract(&mut set, keys.put.as_slice(), width);
+    report.end(rt, (map, "range_set"), count);
 }
 
 // The same with a value for each range, and then the values of all keys.
 fn measure_range_map<C: NodesMut<u64, Span<u64>> + Drop>(
     rt: &(impl Print + Clock),
-    is_timed: bool,
+    report: &mut Report,
     origin: C::Origin,
     keys: &Keys,
-) -> io::Result<()> {
+) {
     let mut map: RangeMap<u64, C> = RangeMap::new(origin);
     let width = u64::MAX / (keys.put.len() as u64).max(1);
-    let since = Instant::now(rt)?;
-    let count = assign_and_remove(&mut map, keys.put.as_slice(), width)? as u64;
-    report(rt, is_timed, ("btree_slab", "range_map"), since, count)?;
-    let since = Instant::now(rt)?;
+    report.begin(rt);
+    let count = assign_and_remove(&mut map, keys.put.as_slice(), width);
+    report.end(rt, ("btree_slab", "range_map"), count);
+    report.begin(rt);
     let sum = sum_values(&map, keys.present.as_slice());
-    report(rt, is_timed, ("btree_slab", "range_map_get"), since, sum)
+    report.end(rt, ("btree_slab", "range_map_get"), Ok(sum));
 }
 
 // The phases of a map that the kit has too.
 fn measure_table<T: Table + Fresh + Drop>(
     rt: &(impl Print + Clock),
+    report: &mut Report,
     alloc: Global,
-    is_timed: bool,
     map: &str,
     keys: &Keys,
-) -> io::Result<()> {
-    measure(rt, is_timed, map, T::fresh(alloc), keys)?;
-    measure_descent(rt, is_timed, map, T::fresh(alloc), keys.put.len() as u64)?;
-    measure_owned(rt, is_timed, map, (T::fresh(alloc), T::fresh(alloc)), keys)
+) {
+    measure(rt, report, map, T::fresh(alloc), keys);
+    measure_descent(rt, report, map, T::fresh(alloc), keys.put.len() as u64);
+    measure_owned(rt, report, map, (T::fresh(alloc), T::fresh(alloc)), keys);
 }
 
 // The phases of this repository's maps and sets alone, over stores of two kinds.
 fn measure_ours<C: NodesMut<u64, u64> + Drop, D: NodesMut<u64, Span<u64>> + Drop>(
     rt: &(impl Print + Clock),
+    report: &mut Report,
     (origin, of_spans): (C::Origin, D::Origin),
-    is_timed: bool,
     keys: &Keys,
-) -> io::Result<()>
+)
 where
     C::Origin: Copy,
     D::Origin: Copy,
 {
-    measure_ranges::<C>(rt, is_timed, origin, keys)?;
-    measure_descent_at::<C>(rt, is_timed, origin, keys.put.len() as u64)?;
-    measure_ascents::<C>(rt, is_timed, origin, keys)?;
+    measure_ranges::<C>(rt, report, origin, keys);
+    measure_descent_at::<C>(rt, report, origin, keys.put.len() as u64);
+    measure_ascents::<C>(rt, report, origin, keys);
     let set: RangeSet<C> = RangeSet::new(origin);
-    measure_spans(rt, is_timed, "btree_slab", set, keys)?;
-    measure_range_map::<D>(rt, is_timed, of_spans, keys)
+    measure_spans(rt, report, "btree_slab", set, keys);
+    measure_range_map::<D>(rt, report, of_spans, keys);
 }
 
 // The phases of the kit's map alone, and of a table, of which 512 nodes take 1,536 keys in any order.
-fn measure_others(
-    rt: &(impl Print + Clock),
-    alloc: Global,
-    is_timed: bool,
-    keys: &Keys,
-) -> io::Result<()> {
+fn measure_others(rt: &(impl Print + Clock), report: &mut Report, alloc: Global, keys: &Keys) {
     if keys.put.len() <= 1_536 {
-        measure_fixed::<FixedNodes>(rt, is_timed, (), keys)?;
+        measure_fixed::<FixedNodes>(rt, report, (), keys);
     }
     let kit = KitSpans::in_map(KitMap::new(alloc));
-    measure_spans(rt, is_timed, "std", kit, keys)
+    measure_spans(rt, report, "std", kit, keys);
 }
 
-fn measure_maps(
-    rt: &(impl Print + Clock),
-    alloc: Global,
-    is_timed: bool,
-    keys: &Keys,
-) -> io::Result<()> {
-    measure_table::<KitMap>(rt, alloc, is_timed, "std", keys)?;
-    measure_table::<SlabMap>(rt, alloc, is_timed, "btree_slab", keys)?;
-    measure_others(rt, alloc, is_timed, keys)?;
-    measure_ours::<SlabNodes, SpanNodes>(rt, (alloc, alloc), is_timed, keys)
+fn measure_maps(rt: &(impl Print + Clock), report: &mut Report, alloc: Global, keys: &Keys) {
+    measure_table::<KitMap>(rt, report, alloc, "std", keys);
+    measure_table::<SlabMap>(rt, report, alloc, "btree_slab", keys);
+    measure_others(rt, report, alloc, keys);
+    measure_ours::<SlabNodes, SpanNodes>(rt, report, (alloc, alloc), keys);
 }
 
 fn measure_all(
@@ -357,7 +301,9 @@ fn measure_all(
     is_timed: bool,
 ) -> io::Result<()> {
     let keys = make_keys(count, rt.alloc())?;
-    measure_maps(rt, rt.alloc(), is_timed, &keys)
+    let mut report = Report::new(is_timed);
+    measure_maps(rt, &mut report, rt.alloc(), &keys);
+    report.into_outcome()
 }
 
 // Returns the number of keys that the arguments give, and whether times are printed; `None` if they are something else.

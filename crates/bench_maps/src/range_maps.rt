@@ -9,7 +9,7 @@ pub fn assign_and_remove<C: NodesMut<u64, Span<u64>>>(
     map: &mut RangeMap<u64, C>,
     keys: &[u64],
     width: u64,
-) -> Result<usize, AllocError> {
+) -> Result<u64, AllocError> {
     let mut is_inserted = false;
     for key in keys {
         is_inserted = !is_inserted;
@@ -20,7 +20,7 @@ pub fn assign_and_remove<C: NodesMut<u64, Span<u64>>>(
             map.remove(*key, end)?;
         }
     }
-    Ok(map.len())
+    Ok(map.len() as u64)
 }
 
 /// Returns the sum of the values of the keys, each with one more, so that a value that is 0 counts.

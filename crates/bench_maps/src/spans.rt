@@ -98,11 +98,7 @@ impl<C: NodesMut<u64, u64>> Spans for RangeSet<C> {
 
 /// Adds and removes a range from each key on, in turn. Each has a width of `width`, or ends at the greatest number. Returns how many
 /// ranges there are then.
-pub fn add_and_subtract(
-    set: &mut impl Spans,
-    keys: &[u64],
-    width: u64,
-) -> Result<usize, AllocError> {
+pub fn add_and_subtract(set: &mut impl Spans, keys: &[u64], width: u64) -> Result<u64, AllocError> {
     let mut is_added = false;
     for key in keys {
         is_added = !is_added;
@@ -113,5 +109,5 @@ pub fn add_and_subtract(
             set.subtract(*key, end)?;
         }
     }
-    Ok(set.count())
+    Ok(set.count() as u64)
 }
