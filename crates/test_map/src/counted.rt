@@ -1,5 +1,6 @@
 //! Calls by key search once: at most six comparisons at each level, by keys that count them. An extension by ascending pairs
 //! or elements, or by copies of them, compares each with the last one alone. An entry and an editing cursor insert and remove without any.
+use crate::asserts::{assert_same, assert_same_in, assert_true};
 use btree_ext::BTreeExt;
 use btree_item::{After, Before, Query};
 use btree_map::{BTreeMap, EntriesMut, Entry};
@@ -9,7 +10,7 @@ use btree_store::SlabStore;
 use std::cell::Cell;
 use std::ops::RangeBounds;
 use std::process::Abort;
-use test_support::{Counted, assert_same, assert_same_in, assert_true, assert_true_in};
+use test_support::Counted;
 
 /// A key or an element with a number, which counts how often it is compared.
 pub(crate) trait Counting<'a> {
@@ -36,19 +37,30 @@ fn ask<'a, K: Ord + Drop + Counting<'a>, C: NodesMut<K, u32>>(
     let is_there = number % 2 == 1;
     compared.set(0);
     let contains = map.contains_key(&key);
-    assert_true_in(rt, number, contains == is_there && compared.get() <= most);
+    assert_same_in(
+        rt,
+        number,
+        contains == is_there && compared.get() <= most,
+        true,
+    );
     compared.set(0);
     let finds = map.get_key_value(&key).is_some();
-    assert_true_in(rt, number, finds == is_there && compared.get() <= most);
+    assert_same_in(
+        rt,
+        number,
+        finds == is_there && compared.get() <= most,
+        true,
+    );
     compared.set(0);
     let is_occupied = match map.entry(key) {
         Entry::Occupied(_) => true,
         Entry::Vacant(_) => false,
     };
-    assert_true_in(
+    assert_same_in(
         rt,
         number,
         is_occupied == is_there && compared.get() <= most,
+        true,
     );
 }
 
@@ -67,17 +79,23 @@ fn remove_once<'a, K: Ord + Drop + Counting<'a>, C: NodesMut<K, u32>>(
     let most = compared.get();
     compared.set(0);
     let is_found = map.address_by(&key).is_ok();
-    assert_true_in(rt, number, is_found == is_there && compared.get() <= most);
+    assert_same_in(
+        rt,
+        number,
+        is_found == is_there && compared.get() <= most,
+        true,
+    );
     compared.set(0);
     let removed = if is_query {
         map.remove_by(&key)
     } else {
         map.remove(&key)
     };
-    assert_true_in(
+    assert_same_in(
         rt,
         number,
         removed.is_some() == is_there && compared.get() <= most,
+        true,
     );
     if let Some(value) = removed {
         assert_same_in(rt, number, map.insert(key, value).ok(), Some(None));
@@ -208,7 +226,7 @@ fn edits_by_cursor<'a, K: Ord + Drop + Counting<'a>, C: NodesMut<K, u32>>(
     let mut entries = map.entries_mut();
     compared.set(0);
     for place in 0..88u32 {
-        assert_true_in(rt, place, entries.remove().is_some());
+        assert_same_in(rt, place, entries.remove().is_some(), true);
     }
     assert_same(rt, compared.get(), 0);
 }
@@ -372,7 +390,7 @@ where
         let map = numbers(rt, compared, empty::<C>(origin), (0, 44));
         let (len, made) = removes_range(compared, map, range);
         assert_same_in(rt, range.0, len, left);
-        assert_true_in(rt, range.0, made <= most);
+        assert_same_in(rt, range.0, made <= most, true);
     }
 }
 

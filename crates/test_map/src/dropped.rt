@@ -1,4 +1,5 @@
 //! Values that count their drops: each is dropped once, by an iterator that owns a map, by a drain, and by `retain`.
+use crate::asserts::{assert_same, assert_true};
 use crate::drops::{Counted, Dropping, hundred};
 use btree_ext::BTreeExt;
 use btree_map::{BTreeMap, IntoIter};
@@ -6,7 +7,6 @@ use btree_node::{Node, NodesMut};
 use btree_store::SlabStore;
 use std::cell::Cell;
 use std::process::Abort;
-use test_support::{assert_same, assert_true};
 
 // Checks that a pair is there, and that its value knows its key.
 fn check_pair<'a, V: Drop + Dropping<'a>>(rt: &impl Abort, pair: Option<(u64, V)>, key: u64) {

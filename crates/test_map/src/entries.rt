@@ -1,4 +1,5 @@
 //! Entries over the store that an entry has if none is named, and the text of entries, and that of maps and sets in several lines.
+use crate::asserts::assert_same;
 use btree_map::{BTreeMap, Entry, OccupiedEntry, VacantEntry};
 use btree_node::{Node, NodesMut};
 use btree_set::BTreeSet;
@@ -6,7 +7,6 @@ use btree_store::SlabStore;
 use std::alloc::Global;
 use std::process::Abort;
 use std::test::Fail;
-use test_support::assert_same;
 
 type Map = BTreeMap<u64, u64, SlabStore<Node<u64, u64>>>;
 

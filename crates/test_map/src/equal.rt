@@ -5,13 +5,13 @@ ghost use Rattle.std.specs.Cmp.{partial_order_from_own_ties};
 ghost use Rattle.std.specs.Cmp.Rules.{comparing};
 ghost use Rattle.std.specs.Ordering.{as_partial_cmp, nat_cmp, on};
 
+use crate::asserts::{assert_same, assert_true};
 use btree_map::BTreeMap;
 use btree_node::{Node, NodesMut};
 use btree_set::BTreeSet;
 use btree_store::SlabStore;
 use std::cmp::Ordering;
 use std::process::Abort;
-use test_support::{assert_same, assert_true};
 
 // A key or an element that is compared by its number alone.
 #[derive(Clone, Copy)]

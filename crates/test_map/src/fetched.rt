@@ -1,5 +1,6 @@
 //! How often each node is asked for to be read, by a store that counts it. 44 ascending keys have twelve nodes on three levels, with the
 //! numbers from 0 to 11.
+use crate::asserts::assert_same_in;
 use crate::samples::first_keys;
 use btree_map::BTreeMap;
 use btree_node::{Node, NodesMut};
@@ -8,7 +9,7 @@ use btree_store::SlabStore;
 use std::fmt::Debug;
 use std::iter::DoubleEndedIterator;
 use std::process::Abort;
-use test_support::{Asked, AskedStore, assert_same_in};
+use test_support::{Asked, AskedStore};
 
 type Store<'m, V> = AskedStore<'m, SlabStore<Node<u64, V>>>;
 
@@ -22,7 +23,7 @@ fn level_of(key: u64) -> u64 {
 }
 
 // Checks how often nodes were asked for, and how often one of them at most, and begins anew.
-fn check<N: Debug + Drop>(rt: &impl Abort, case: N, asked: &Asked, expected: (u64, u64)) {
+fn check<N: PartialEq + Debug + Copy + Drop>(rt: &impl Abort, case: N, asked: &Asked, expected: (u64, u64)) {
     assert_same_in(rt, case, (asked.all(), asked.most()), expected);
     asked.restart();
 }

@@ -1,4 +1,5 @@
 //! Maps over a fixed table of nodes.
+use crate::asserts::{assert_same, assert_same_in, assert_true};
 use crate::samples::first_keys;
 use btree_ext::BTreeExt;
 use btree_item::Cause;
@@ -7,7 +8,6 @@ use btree_more_stores::FixedSlab;
 use btree_node::{CloneNodes, Node, NodesMut};
 use std::io;
 use std::process::Abort;
-use test_support::{assert_same, assert_same_in, assert_true};
 
 pub(crate) type Table<const N: usize> = FixedSlab<Node<u64, u64>, N>;
 

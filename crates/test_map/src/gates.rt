@@ -1,4 +1,5 @@
 //! Maps and sets in a store that is there, behind a gate that refuses one node.
+use crate::asserts::{assert_same, assert_same_in, assert_true};
 use btree_ext::BTreeExt;
 use btree_item::Cause;
 use btree_map::BTreeMap;
@@ -9,7 +10,7 @@ use btree_store::{SlabMut, SlabStore};
 use std::alloc::Global;
 use std::process::Abort;
 use std::test::Fail;
-use test_support::{assert_same, assert_same_in, assert_true, content_of};
+use test_support::content_of;
 
 // The key of which the n-th node that 44 insertions need is refused: the first leaf, a root and a second leaf, a leaf each, and a leaf, a
 // node beside the root and a new root.

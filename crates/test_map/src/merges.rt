@@ -1,13 +1,14 @@
 //! How often merges of sets compare elements.
 ghost use Rattle.std.specs.Iterator.{IsFinite};
 
+use crate::asserts::{assert_same, assert_true};
 use crate::counted::Counting;
 use btree_node::{Node, NodesMut};
 use btree_set::BTreeSet;
 use btree_store::SlabStore;
 use std::cell::Cell;
 use std::process::Abort;
-use test_support::{Counted, assert_same, assert_true};
+use test_support::Counted;
 
 type Store<'a> = SlabStore<Node<Counted<'a>, ()>>;
 

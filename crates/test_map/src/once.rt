@@ -1,5 +1,6 @@
 //! Sixteen keys and values of which each one's drops are counted: the n-th digit of a sum to base 16 says how often that of the number n was
 //! dropped. So one that is dropped twice does not make up for one that is not.
+use crate::asserts::{assert_same, assert_same_in, assert_true};
 use crate::counted_keys::{CountedKey, Weighed};
 use btree_item::Refused;
 use btree_map::{BTreeMap, Entry};
@@ -9,7 +10,7 @@ use btree_store::SlabStore;
 use std::alloc::Global;
 use std::cell::Cell;
 use std::process::Abort;
-use test_support::{Refusing, RefusingStore, assert_same, assert_same_in, assert_true};
+use test_support::{Refusing, RefusingStore};
 
 type Pairs<K, C> = BTreeMap<K, K, C>;
 

@@ -1,4 +1,5 @@
 //! Maps over stores of one's own.
+use crate::asserts::{assert_same, assert_same_in, assert_true};
 use crate::fixed::check_table;
 use crate::samples::first_keys;
 use btree_ext::BTreeExt;
@@ -7,7 +8,6 @@ use btree_node::{Node, NodesMut};
 use btree_store::SlabMut;
 use example_stores::{OnePlace, VecStore};
 use std::process::Abort;
-use test_support::{assert_same, assert_true, assert_true_in};
 
 #[test]
 fn one_place_holds_one_leaf(rt: HostRuntime) {
@@ -38,7 +38,7 @@ fn take_each<S: SlabMut<u32> + Drop>(rt: &impl Abort, origin: S::Origin) {
     S::note_fits();
     let mut store = S::empty(origin);
     for value in 0..4096 {
-        assert_true_in(rt, value, store.insert(value).is_ok());
+        assert_same_in(rt, value, store.insert(value).is_ok(), true);
     }
     assert_same(rt, store.len(), 4096);
 }

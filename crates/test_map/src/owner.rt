@@ -1,11 +1,11 @@
 //! A map over any store of nodes can be kept in a caller's type, and passed on by value.
 ghost use Rattle.std.specs.Prelude.{◌≡◌};
 
+use crate::asserts::assert_same;
 use crate::samples::first_keys;
 use btree_map::BTreeMap;
 use btree_node::{Node, NodesMut};
 use btree_store::SlabStore;
-use test_support::assert_same;
 
 type Store = SlabStore<Node<u64, u64>>;
 

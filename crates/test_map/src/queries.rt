@@ -1,4 +1,5 @@
 //! Look-up by a text, by a slice and by a place beside keys.
+use crate::asserts::{assert_same, assert_same_in, assert_true};
 use crate::samples::first_keys;
 use btree_ext::BTreeExt;
 use btree_item::{Address, After, AfterFirst, Before, BeforeFirst, Query};
@@ -11,7 +12,6 @@ use std::alloc::Global;
 use std::iter::DoubleEndedIterator;
 use std::ops::Bound;
 use std::process::Abort;
-use test_support::{assert_same, assert_same_in, assert_true};
 
 // Counts a word. A `String` is made for a word that is not there yet, and for no other.
 fn count<C: NodesMut<String, u64>>(

@@ -1,8 +1,8 @@
 //! A map that several modules of tests use.
+use crate::asserts::assert_true;
 use btree_map::BTreeMap;
 use btree_node::NodesMut;
 use std::process::Abort;
-use test_support::assert_true;
 
 /// Returns the map of the keys from 0 on, with the values 10 times the keys.
 pub(crate) fn first_keys<C: NodesMut<u64, u64> + Drop>(

@@ -6,14 +6,13 @@ ghost use Rattle.btree_internal.specs.Internal.{internal_view};
 ghost use Rattle.btree_node.specs.Node.{view_of};
 ghost use Rattle.btree_view.specs.View.{items_of};
 
+use crate::asserts::{assert_same_in, assert_true};
 use btree_item::{Item, MAX_COMPARISONS, Offset};
 use btree_node::{InternalNode, LeafNode, Node};
 use btree_steps::Steps;
 use std::cell::Cell;
 use std::process::Abort;
-use test_support::{
-    COMPARISONS, Counted, assert_same_in, assert_true, assert_true_in, promised_comparisons,
-};
+use test_support::{COMPARISONS, Counted, promised_comparisons};
 
 // What a look-up in a node answers.
 type Place = Result<Offset, (usize, Option<usize>)>;
@@ -53,7 +52,7 @@ fn looked_up<'a>(
     let (counted, ticks) = counted_of(node, &key, &mut steps);
     assert_same_in(rt, key.number, key.compared.get(), compared);
     assert_same_in(rt, key.number, ticks, compared as usize);
-    assert_true_in(rt, key.number, ticks <= MAX_COMPARISONS);
+    assert_same_in(rt, key.number, ticks <= MAX_COMPARISONS, true);
     (place, counted, ticks)
 }
 
@@ -63,7 +62,7 @@ fn check_get<'a>(rt: &impl Abort, node: &Node<Counted<'a>, u32>, key: Counted<'a
 {
     key.compared.set(0);
     let found = node.get(&key).map(|value| value.copied());
-    assert_true_in(rt, key.number, key.compared.get() <= 6);
+    assert_same_in(rt, key.number, key.compared.get() <= 6, true);
     let expected = match place {
         Ok(_) => Ok(Some(key.number / 2)),
         Err((_, None)) => Ok(None),
@@ -88,7 +87,7 @@ fn leaf_of<'a>(rt: &impl Abort, compared: &'a Cell<u32>, count: u32) -> Node<Cou
         assert_true(rt, leaf.item_count() < 9);
         compared.set(0);
         let (_, old) = leaf.insert_by_key(key, index);
-        assert_true_in(rt, index, old.is_none() && compared.get() <= 6);
+        assert_same_in(rt, index, old.is_none() && compared.get() <= 6, true);
     }
     Node::Leaf(leaf)
 }

@@ -1,5 +1,6 @@
 ghost use Rattle.std.specs.Prelude.{◌≡◌, ◌≤◌, length, map, IfOk};
 
+use crate::asserts::{assert_same, assert_same_in, assert_true};
 use btree_item::{
     Address, Cause, Fault, Item, Offset, Refused, Slots, UpdateRefused, binary_search_min,
 };
@@ -9,7 +10,6 @@ use std::fmt::{Debug, Display};
 use std::io;
 use std::process::Abort;
 use std::test::Fail;
-use test_support::{assert_same, assert_same_in, assert_true};
 
 fn printed<T: Display>(alloc: Global, value: &T) -> Result<String, AllocError> {
     let mut text = String::new(alloc);

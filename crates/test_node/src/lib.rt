@@ -4,6 +4,8 @@
 #[cfg(test)]
 mod any_store;
 #[cfg(test)]
+mod asserts;
+#[cfg(test)]
 mod callers;
 #[cfg(test)]
 mod counted;

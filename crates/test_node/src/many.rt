@@ -1,10 +1,10 @@
 //! A slab that is filled with many values, none of which it refuses.
 use crate::any_store::{insert_both, raise};
+use crate::asserts::{assert_same, assert_same_in, assert_true};
 use btree_store::{Clear, Slab, SlabMut, SlabStore};
 use std::alloc::Global;
 use std::process::Abort;
 use std::test::Fail;
-use test_support::{assert_same, assert_same_in, assert_true};
 
 const VALUES: u32 = 4096;
 

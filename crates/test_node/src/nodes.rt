@@ -3,11 +3,11 @@ ghost use Rattle.std.specs.Prelude.{◌≡◌, IfOk, true, false};
 ghost use Rattle.btree_item.specs.Pairs.{Ascends};
 ghost use Rattle.btree_leaf.specs.LeafLends.{leaf_with_value};
 
+use crate::asserts::assert_same;
 use btree_item::{Item, Keyed};
 use btree_node::{Branch, InternalNode, LeafNode, internal};
 use std::alloc::AllocError;
 use std::cmp::Ordering;
-use test_support::assert_same;
 
 pub(crate) fn clone_of<K: Clone, V: Clone>(
     leaf: &LeafNode<K, V>,

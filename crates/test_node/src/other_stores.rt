@@ -1,10 +1,10 @@
 //! A store that is full, one whose numbers are odd, and one that refuses one insertion.
+use crate::asserts::{assert_same, assert_same_in, assert_true};
 use btree_more_stores::{FixedSlab, Gate, OddSlab};
 use btree_store::{Clear, Slab, SlabClone, SlabMut, SlabStore};
 use std::alloc::Global;
 use std::process::Abort;
 use std::test::Fail;
-use test_support::{assert_same, assert_same_in, assert_true, assert_true_in};
 
 // Inserts the values from 0 to 3, and returns those that are refused.
 fn refused_of_four<S: SlabMut<u32>>(store: &mut S, alloc: Global) -> Result<Vec<u32>, Fail> {
@@ -55,9 +55,9 @@ fn a_table_uses_its_places_again(rt: HostRuntime) -> Result<(), Fail> {
         let Ok(id) = two.insert(value) else {
             return Err(Fail::from("refused"));
         };
-        assert_true_in(&rt, value, two.get(id).is_some());
+        assert_true(&rt, two.get(id).is_some());
         assert_same(&rt, two.remove(id), value);
-        assert_true_in(&rt, value, two.get(id).is_none());
+        assert_same_in(&rt, value, two.get(id).is_none(), true);
     }
     check_refused(&rt, &mut two, &[2, 3], rt.alloc())
 }

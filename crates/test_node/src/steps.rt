@@ -1,7 +1,7 @@
 //! A counter takes no bytes, by itself and beside other values.
+use crate::asserts::assert_same;
 use btree_steps::Steps;
 use std::mem;
-use test_support::assert_same;
 
 const _: () = prove!(mem::size_of::<Steps>() == 0);
 

@@ -1,9 +1,10 @@
 //! A store over memory in which one allocation is refused.
+use crate::asserts::{assert_same, assert_same_in, assert_true};
 use btree_store::{Slab, SlabMut, SlabStore};
 use std::alloc::Global;
 use std::process::Abort;
 use std::test::Fail;
-use test_support::{Refusing, assert_same, assert_same_in, assert_true};
+use test_support::Refusing;
 
 const VALUES: u32 = 200;
 

@@ -1,12 +1,12 @@
 //! Checks of maps, and maps to begin with.
 ghost use Rattle.std.specs.Prelude.{◌≡◌};
 
+use crate::asserts::{assert_same, assert_true};
 use btree_more_stores::FixedSlab;
 use btree_node::{ClearNodes, Node, NodesMut};
 use btree_range_map::{RangeCause, RangeMap, RangeRefused, Span};
 use btree_store::SlabStore;
 use std::process::Abort;
-use test_support::{assert_same, assert_true};
 
 // The nodes of a map of numbers, over the heap and in a table of one.
 pub(crate) type Heap = SlabStore<Node<u64, Span<u64>>>;

@@ -1,9 +1,9 @@
 //! Maps that are extended by the ranges of an iterator.
+use crate::asserts::{assert_same, assert_true};
 use crate::checks::{Heap, check_ranges, range};
 use btree_node::NodesMut;
 use btree_range_map::{RangeCause, RangeMap, Span};
 use std::process::Abort;
-use test_support::{assert_same, assert_true};
 
 // Passes the next range of an iterator, and returns it.
 fn step<I: Iterator<Item = (u64, Span<u64>)>>(ranges: &mut I) -> Option<(u64, Span<u64>)>

@@ -1,10 +1,10 @@
 //! Maps as text of several lines.
+use crate::asserts::{assert_same, assert_true, given};
 use crate::checks::Heap;
 use btree_node::NodesMut;
 use btree_range_map::{RangeMap, Span};
 use std::alloc::{AllocError, Global};
 use std::process::Abort;
-use test_support::{assert_same, assert_true, given};
 
 // Returns the text of a map.
 fn text_of<C: NodesMut<u64, Span<u64>>>(

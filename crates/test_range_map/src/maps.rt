@@ -1,4 +1,5 @@
 //! Maps of ranges and the ordered maps behind them.
+use crate::asserts::{assert_same, assert_true};
 use crate::checks::{Heap, Ranges, check_ranges, fill};
 use btree_ext::BTreeExt;
 use btree_map::BTreeMap;
@@ -6,7 +7,6 @@ use btree_node::{ClearNodes, NodesMut};
 use btree_range_map::{RangeMap, Span};
 use std::alloc::Global;
 use std::process::Abort;
-use test_support::{assert_same, assert_true};
 
 const TWO: Ranges = &[(1, 4, 7), (4, 6, 8)];
 

@@ -1,11 +1,11 @@
 //! Maps whose values own memory.
+use crate::asserts::{assert_same, assert_true};
 use crate::texts::{IsText, Text};
-use btree_node::{Node, NodesMut};
+use btree_node::{ClearNodes, Node, NodesMut};
 use btree_range_map::{RangeCause, RangeMap, Span};
 use btree_store::SlabStore;
 use std::alloc::Global;
 use std::process::Abort;
-use test_support::{assert_same, assert_true};
 
 type Heap = SlabStore<Node<u64, Span<Text>>>;
 
@@ -37,6 +37,21 @@ fn insert<V: Clone + Eq + Drop + IsText, C: NodesMut<u64, Span<V>>>(
     assert_true(rt, map.insert(start, end, text).is_ok());
 }
 
+// Checks a range and its text.
+fn check_text<V: IsText>(
+    rt: &impl Abort,
+    range: Option<(u64, &Span<V>)>,
+    (start, end, letters): (u64, u64, &str),
+) {
+    match range {
+        Some((first, span)) => {
+            let found = (first, span.end, span.value.letters());
+            assert_same(rt, found, (start, end, letters));
+        }
+        None => panic!(rt; "no range"),
+    }
+}
+
 // Checks the ranges of a map, each with its text.
 fn check_texts<V: Clone + Eq + IsText, C: NodesMut<u64, Span<V>>>(
     rt: &impl Abort,
@@ -44,14 +59,8 @@ fn check_texts<V: Clone + Eq + IsText, C: NodesMut<u64, Span<V>>>(
     expected: &[(u64, u64, &str)],
 ) {
     let mut ranges = map.iter();
-    for (start, end, letters) in expected.iter().copied() {
-        match ranges.next() {
-            Some((first, span)) => {
-                assert_same(rt, (first, span.end), (start, end));
-                assert_same(rt, span.value.letters(), letters);
-            }
-            None => panic!(rt; "no range"),
-        }
+    for wanted in expected.iter().copied() {
+        check_text(rt, ranges.next(), wanted);
     }
     assert_true(rt, ranges.next().is_none());
 }
@@ -187,21 +196,25 @@ fn refuse<V: Clone + Eq + Drop + IsText, C: NodesMut<u64, Span<V>>>(
     check_texts(rt, map, &[(5, 12, "new"), (12, 18, "old")]);
 }
 
-// Returns an empty map.
-fn no_texts(alloc: Global) -> RangeMap<Text, Heap> {
-    RangeMap::new(alloc)
+// All of these, in a map that is empty before each.
+fn hold<V: Clone + Eq + Drop + IsText, C: ClearNodes<u64, Span<V>>>(
+    rt: &impl Abort,
+    alloc: Global,
+    map: &mut RangeMap<V, C>,
+) {
+    cut(rt, alloc, map);
+    map.clear();
+    join(rt, alloc, map);
+    map.clear();
+    update(rt, alloc, map);
+    map.clear();
+    fill(rt, alloc, map);
+    map.clear();
+    refuse(rt, alloc, map);
 }
 
 #[test]
 fn holds_texts(rt: HostRuntime) {
-    let alloc = rt.alloc();
-    cut(&rt, alloc, &mut no_texts(alloc));
-    join(&rt, alloc, &mut no_texts(alloc));
-    update(&rt, alloc, &mut no_texts(alloc));
-    fill(&rt, alloc, &mut no_texts(alloc));
-}
-
-#[test]
-fn clone_of_a_text_is_refused(rt: HostRuntime) {
-    refuse(&rt, rt.alloc(), &mut no_texts(rt.alloc()));
+    let mut map: RangeMap<Text, Heap> = RangeMap::new(rt.alloc());
+    hold(&rt, rt.alloc(), &mut map);
 }

@@ -1,4 +1,5 @@
 //! Lists of two hundred calls, against a table of values.
+use crate::asserts::{assert_same, assert_true};
 use crate::checks::{Call, Heap, Outcome, call};
 use btree_more_stores::{FixedSlab, Gate, OddSlab};
 use btree_node::{Node, NodesMut};
@@ -6,7 +7,6 @@ use btree_range_map::{RangeCause, RangeMap, Span};
 use btree_store::SlabMut;
 use std::alloc::Global;
 use std::process::Abort;
-use test_support::{assert_same, assert_true};
 
 // Writes a value for the numbers from `start` up to `end`.
 fn write(table: &mut [Option<u64>; 64], start: u64, end: u64, value: Option<u64>) {

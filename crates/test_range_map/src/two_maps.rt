@@ -1,9 +1,9 @@
 //! Maps that are compared, and clones.
+use crate::asserts::{assert_same, assert_true};
 use crate::checks::{Call, Heap, OneNode, Outcome, Ranges, call, check_ranges};
 use btree_node::{CloneNodes, NodesMut};
 use btree_range_map::{RangeCause, RangeMap, Span};
 use std::process::Abort;
-use test_support::{assert_same, assert_true};
 
 // Does calls, of which none is refused.
 fn do_all<C: NodesMut<u64, Span<u64>> + Drop>(

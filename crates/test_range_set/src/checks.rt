@@ -1,9 +1,9 @@
 //! Checks of sets, and sets to begin with.
+use crate::asserts::{assert_same, assert_true};
 use btree_item::{Cause, Refused};
 use btree_node::{ClearNodes, NodesMut};
 use btree_range_set::RangeSet;
 use std::process::Abort;
-use test_support::{assert_same, assert_true};
 
 // Passes the next range of an iterator, and returns it.
 pub(crate) fn step<I: Iterator<Item = (u64, u64)>>(ranges: &mut I) -> Option<(u64, u64)>

@@ -1,4 +1,5 @@
 //! Sets that are extended by the ranges of an iterator.
+use crate::asserts::{assert_same, assert_true};
 use crate::checks::{EIGHT, check_ranges, check_refused, fill, step};
 use btree_item::Cause;
 use btree_more_stores::FixedSlab;
@@ -6,7 +7,6 @@ use btree_node::{ClearNodes, Node};
 use btree_range_set::RangeSet;
 use btree_store::SlabStore;
 use std::process::Abort;
-use test_support::{assert_same, assert_true};
 
 // The ranges come in any order. They may overlap, touch and be empty.
 fn extend_twice<C: ClearNodes<u64, u64> + Drop>(rt: &impl Abort, origin: C::Origin) {

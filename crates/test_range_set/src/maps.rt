@@ -1,4 +1,5 @@
 //! Sets made from maps.
+use crate::asserts::{assert_same, assert_true};
 use crate::checks::check_ranges;
 use btree_ext::{BTreeExt, BTreeExtMut};
 use btree_map::BTreeMap;
@@ -6,7 +7,6 @@ use btree_node::{Node, NodesMut};
 use btree_range_set::RangeSet;
 use btree_store::SlabStore;
 use std::process::Abort;
-use test_support::{assert_same, assert_true};
 
 // Returns a map of these pairs.
 fn map_of<C: NodesMut<u64, u64> + Drop>(

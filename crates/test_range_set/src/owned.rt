@@ -1,11 +1,11 @@
 //! Ranges by value, and sets as text.
+use crate::asserts::{assert_same, assert_true};
 use btree_node::{Node, NodesMut};
 use btree_range_set::RangeSet;
 use btree_store::SlabStore;
 use std::alloc::Global;
 use std::process::Abort;
 use std::test::Fail;
-use test_support::{assert_same, assert_true};
 
 // Returns a set of 45 ranges, the i-th of which has 3i and 3i + 1.
 fn twos<C: NodesMut<u64, u64> + Drop>(rt: &impl Abort, origin: C::Origin) -> RangeSet<C> {

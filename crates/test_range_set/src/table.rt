@@ -1,4 +1,5 @@
 //! Lists of two hundred calls, against a table of truth values.
+use crate::asserts::{assert_same, assert_true};
 use btree_item::{Cause, Refused};
 use btree_more_stores::{FixedSlab, Gate, OddSlab};
 use btree_node::{Node, NodesMut};
@@ -7,7 +8,6 @@ use btree_store::{SlabMut, SlabStore};
 use std::alloc::Global;
 use std::process::Abort;
 use std::test::Fail;
-use test_support::{assert_same, assert_true};
 
 // Writes a value for the numbers from `start` up to `end`.
 fn write(table: &mut [bool; 64], start: u64, end: u64, is: bool) {

@@ -1,4 +1,5 @@
 //! A set that is changed by another one, and two that are compared.
+use crate::asserts::assert_true;
 use crate::checks::{EIGHT, check_ranges, check_refused, fill};
 use btree_item::{Cause, Refused};
 use btree_more_stores::{FixedSlab, OddSlab};
@@ -6,7 +7,6 @@ use btree_node::{ClearNodes, CloneNodes, Node, NodesMut};
 use btree_range_set::RangeSet;
 use btree_store::SlabStore;
 use std::process::Abort;
-use test_support::assert_true;
 
 type Ranges = &'static [(u64, u64)];
 

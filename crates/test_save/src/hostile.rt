@@ -1,11 +1,11 @@
 //! Bytes that no one saved.
+use crate::asserts::{assert_same, assert_true, given};
 use crate::maps::{Slots, saved_squares};
 use crate::verdicts::{Tally, Verdict, tried};
 use crate::words::{MAGIC, add_sum, bytes_of_words, put_word};
 use btree_image::BadImage;
 use std::alloc::Global;
 use std::process::Abort;
-use test_support::{assert_same, assert_true, given};
 
 // A step of a sequence of numbers without a pattern.
 fn next(state: u64) -> u64 {

@@ -2,6 +2,7 @@
 ghost use Rattle.std.specs.Mem.{FitsInMemory};
 ghost use Rattle.btree_node.specs.contracts.node.Node.{the_row as node_row};
 
+use crate::asserts::{assert_same, assert_true, given};
 use crate::maps::check_same;
 use btree_map::BTreeMap;
 use btree_more_stores::{Fill, SlotStore};
@@ -11,7 +12,6 @@ use btree_spelled::Spelled;
 use std::alloc::Global;
 use std::fmt::Debug;
 use std::process::Abort;
-use test_support::{assert_same, assert_true, given};
 
 // The nodes of a map, in slots.
 type SlotsOf<K, V> = SlotStore<Node<K, V>>;

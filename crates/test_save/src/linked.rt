@@ -1,9 +1,9 @@
 //! Images whose nodes are linked in any way: with cycles, with children of two nodes, and with children that are not there.
+use crate::asserts::assert_same;
 use crate::verdicts::{Tally, Verdict, tried};
 use crate::words::{MAGIC, NONE, add_sum, bytes_of_words, put_word};
 use std::alloc::Global;
 use std::process::Abort;
-use test_support::assert_same;
 
 // Appends a leaf with three items.
 fn put_leaf(rt: &impl Abort, bytes: &mut Vec<u8>, parent: u64, least: u64) {

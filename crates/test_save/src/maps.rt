@@ -1,4 +1,5 @@
 //! Maps to save, and checks that two maps are the same.
+use crate::asserts::{assert_same, assert_true, given};
 use btree_map::BTreeMap;
 use btree_more_stores::SlotStore;
 use btree_node::{Node, NodesMut};
@@ -6,7 +7,6 @@ use btree_save::bytes_of_map;
 use std::alloc::Global;
 use std::fmt::Debug;
 use std::process::Abort;
-use test_support::{assert_same, assert_true, given};
 
 /// The nodes of a map of numbers, in slots.
 pub(crate) type Slots = SlotStore<Node<u64, u64>>;

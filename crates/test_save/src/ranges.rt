@@ -1,4 +1,5 @@
 //! Sets and maps of ranges, which are saved as the maps behind them.
+use crate::asserts::{assert_same, assert_true, given};
 use btree_map::BTreeMap;
 use btree_more_stores::{Fill, SlotStore};
 use btree_node::{Node, NodesMut};
@@ -7,7 +8,6 @@ use btree_range_set::RangeSet;
 use btree_save::{bytes_of_map, map_of_bytes};
 use std::alloc::Global;
 use std::process::Abort;
-use test_support::{assert_same, assert_true, given};
 
 // Checks that bytes are those of the set of these two ranges, and of no other.
 fn check_ranges<C: Fill<Node<u64, u64>> + Drop>(rt: &impl Abort, origin: C::Origin, bytes: &[u8]) {

@@ -1,4 +1,5 @@
 //! Maps that are saved and opened.
+use crate::asserts::{assert_same, assert_true, given};
 use crate::maps::{Slots, check_squares, squares};
 use btree_ext::{BTreeExt, BTreeExtMut};
 use btree_item::Address;
@@ -9,7 +10,6 @@ use btree_save::{bytes_of_map, map_of_bytes, open, save};
 use std::alloc::Global;
 use std::io::Cursor;
 use std::process::Abort;
-use test_support::{assert_same, assert_true, given};
 
 // Saves a map and opens it. It is the same, and is saved as the same bytes.
 fn check_round<C: Fill<Node<u64, u64>, Origin = Global> + Drop>(

@@ -1,4 +1,5 @@
 //! Files whose bytes and faults are known by hand.
+use crate::asserts::{assert_same, assert_same_in, assert_true, given};
 use crate::maps::Slots;
 use crate::verdicts::{Verdict, tried, tried_in};
 use crate::words::{MAGIC, NONE, bytes_of_words, file_of, put_word};
@@ -10,7 +11,6 @@ use btree_node::{Node, NodesMut};
 use btree_save::bytes_of_map;
 use std::alloc::Global;
 use std::process::Abort;
-use test_support::{assert_same, assert_same_in, assert_true, given};
 
 // The file {7: 49}: root 0, length 1, no limit, one place, a leaf without a parent, one item.
 const ONE_PAIR: [u64; 11] = [MAGIC, 1, 0, 1, NONE, 1, 1, NONE, 1, 7, 49];

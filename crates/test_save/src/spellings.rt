@@ -1,12 +1,12 @@
 //! The bytes of the types that are saved. Each list is written by hand.
 ghost use Rattle.std.specs.Prelude.{◌≡◌, refl};
 
+use crate::asserts::{assert_same, assert_true, given};
 use btree_range_map::Span;
 use btree_spelled::{Spelled, SpelledAs};
 use std::alloc::Global;
 use std::fmt::Debug;
 use std::process::Abort;
-use test_support::{assert_same, assert_true, given};
 
 // Checks that a value has these bytes, that they are read as it before others, and that no front of them is read.
 fn check<T: Spelled + PartialEq + Debug>(rt: &impl Abort, alloc: Global, value: T, bytes: &[u8]) {

@@ -1,4 +1,5 @@
 //! Readers and writers that fail, and memory that is refused.
+use crate::asserts::{assert_same, assert_same_in, assert_true, given};
 use crate::maps::{Slots, saved_squares, squares};
 use crate::verdicts::{Verdict, verdict_of};
 use btree_map::BTreeMap;
@@ -9,7 +10,7 @@ use std::alloc::Global;
 use std::io;
 use std::io::{ErrorKind, Read, Write};
 use std::process::Abort;
-use test_support::{Refusing, assert_same, assert_same_in, assert_true, given};
+use test_support::Refusing;
 
 // Gives a byte at each read, and fails in place of the byte at `cut`.
 #[derive(Drop)]

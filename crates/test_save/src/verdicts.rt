@@ -1,4 +1,5 @@
 //! What comes of bytes.
+use crate::asserts::{assert_same, assert_true, given};
 use crate::maps::Slots;
 use btree_ext::BTreeExt;
 use btree_image::BadImage;
@@ -9,7 +10,6 @@ use btree_node::Node;
 use btree_save::{OpenError, bytes_of_map, map_of_bytes};
 use std::alloc::Global;
 use std::process::Abort;
-use test_support::{assert_same, assert_true, given};
 
 /// What comes of bytes: a map, or a fault of the image and its place, or a fault of the tree, or a store that has no room.
 #[derive(Clone, Copy, Debug, PartialEq)]

@@ -1,8 +1,8 @@
 //! Files made of words.
+use crate::asserts::given;
 use btree_image::check_sum_of;
 use std::alloc::Global;
 use std::process::Abort;
-use test_support::given;
 
 /// The number that stands for no node, and for no limit.
 pub(crate) const NONE: u64 = u64::MAX;

@@ -1,6 +1,7 @@
 //! The program's arguments, its whole runs, and what it prints at their ends.
 ghost use Rattle.std.specs.Io.{WritesAtMost};
 
+use crate::asserts::{assert_same, assert_same_in};
 use btree_command_line::{Ending, read_arguments, report, run, run_and_report};
 use btree_session::{Setup, Stop, setup};
 use std::alloc::Global;
@@ -10,7 +11,6 @@ use std::fmt::Display;
 use std::process::Abort;
 use std::test::Fail;
 use std::{io, str};
-use test_support::{assert_same, assert_same_in};
 
 // A program's name, the arguments after it, and perhaps one more, which may be no text.
 #[derive(Drop)]

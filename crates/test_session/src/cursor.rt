@@ -1,11 +1,12 @@
 //! A list of steps that a cursor runs, without memory for the replies.
+use crate::asserts::{assert_same, assert_true};
 use btree_map::BTreeMap;
 use btree_node::{Node, NodesMut};
 use btree_session::{CursorStep, Reply, run_cursor};
 use btree_store::SlabStore;
 use std::alloc::Global;
 use std::process::Abort;
-use test_support::{Refusing, assert_same, assert_true};
+use test_support::Refusing;
 
 // Without memory for the replies no step is run.
 fn run_without_room<C: NodesMut<u64, u64> + Drop>(

@@ -1,4 +1,5 @@
 //! Sessions over readers and writers that fail, over many lines, and without memory for the replies.
+use crate::asserts::{assert_same, assert_same_in, assert_true};
 use crate::streams::{Piece, Pieces, Slow};
 use btree_ext::BTreeExt;
 use btree_node::{ClearNodes, Node};
@@ -10,7 +11,7 @@ use std::io;
 use std::io::{ErrorKind, Write};
 use std::process::Abort;
 use std::test::Fail;
-use test_support::{Refusing, assert_same, assert_same_in, assert_true, content_of};
+use test_support::{Refusing, content_of};
 
 type Store = SlabStore<Node<u64, u64>>;
 

@@ -1,4 +1,5 @@
 //! Lines over a table of nodes, and over a store with odd numbers.
+use crate::asserts::{assert_same, assert_same_in, assert_true};
 use btree_ext::BTreeExt;
 use btree_item::Address;
 use btree_more_stores::{FixedSlab, OddSlab};
@@ -8,7 +9,6 @@ use btree_store::SlabMut;
 use std::alloc::Global;
 use std::process::Abort;
 use std::test::Fail;
-use test_support::{assert_same, assert_true, assert_true_in};
 
 type Odd = OddSlab<Node<u64, u64>>;
 
@@ -80,7 +80,7 @@ fn check_numbers<C: ClearNodes<u64, u64>>(rt: &impl Abort, session: &Session<C>)
         let Some(at) = next else {
             panic!(rt; "an address is missing");
         };
-        assert_true_in(rt, at.id, at.id % 2 == 1);
+        assert_same_in(rt, at.id, at.id % 2 == 1, true);
         assert_true(rt, map.is_valid(at));
         next = map.next_back_address(at);
     }

@@ -4,7 +4,6 @@
 #![tactic(auto)]
 
 mod asked;
-mod asserts;
 mod content;
 mod counted;
 mod pairs;
@@ -13,7 +12,6 @@ mod refusing;
 mod store;
 
 pub use crate::asked::{Asked, AskedStore};
-pub use crate::asserts::{assert_same, assert_same_in, assert_true, assert_true_in, given};
 pub use crate::content::content_of;
 pub use crate::counted::Counted;
 pub use crate::pairs::listed_pairs;

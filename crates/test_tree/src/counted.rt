@@ -9,6 +9,7 @@ ghost use Rattle.btree_laws.specs.TreeState.{IsUsed};
 ghost use Rattle.btree_find.specs.Fits.{FitsIn};
 ghost use Rattle.btree_find.specs.Levels.{comparisons_from};
 
+use crate::asserts::{assert_same, assert_same_in, assert_true};
 use btree_ext::{BTreeExt, BTreeExtMut, Tree};
 use btree_item::{Address, Offset};
 use btree_node::{Node, NodesMut};
@@ -16,10 +17,7 @@ use btree_steps::Steps;
 use btree_store::SlabStore;
 use std::cell::Cell;
 use std::process::Abort;
-use test_support::{
-    COMPARISONS, Counted, assert_same, assert_same_in, assert_true, assert_true_in,
-    promised_comparisons,
-};
+use test_support::{COMPARISONS, Counted, promised_comparisons};
 
 type Store<'a> = SlabStore<Node<Counted<'a>, u32>>;
 
@@ -36,7 +34,12 @@ fn odd_keys<'a, C: NodesMut<Counted<'a>, u32> + Drop>(
         compared.set(0);
         let old = tree.insert(Counted { number, compared }, value);
         assert_same(rt, old.ok(), Some(None));
-        assert_true_in(rt, number, compared.get() as usize <= 6 * tree.height());
+        assert_same_in(
+            rt,
+            number,
+            compared.get() as usize <= 6 * tree.height(),
+            true,
+        );
     }
     tree
 }
@@ -164,15 +167,20 @@ fn check_at<'a, C: NodesMut<Counted<'a>, u32>>(
     let value = if is_there { Some(key.number / 2) } else { None };
     key.compared.set(0);
     assert_same_in(rt, key.number, tree.get(&key).copied(), value);
-    assert_true_in(rt, key.number, key.compared.get() <= 18);
+    assert_same_in(rt, key.number, key.compared.get() <= 18, true);
     assert_true(rt, tree.is_valid(addr));
     key.compared.set(0);
     let fits = tree.fits_at(addr, &key);
-    assert_true_in(rt, key.number, fits != is_there && key.compared.get() <= 2);
+    assert_same_in(
+        rt,
+        key.number,
+        fits != is_there && key.compared.get() <= 2,
+        true,
+    );
     key.compared.set(0);
     let replaces = tree.replaces_at(addr, &key);
-    assert_true_in(rt, key.number, replaces || !is_there);
-    assert_true_in(rt, key.number, key.compared.get() <= 2);
+    assert_same_in(rt, key.number, replaces || !is_there, true);
+    assert_same_in(rt, key.number, key.compared.get() <= 2, true);
 }
 
 // Searches for a key with a counter and without one, which compares as many keys as the table has. Returns its address or gap.
@@ -188,7 +196,7 @@ fn search<'a, C: NodesMut<Counted<'a>, u32>>(
     assert_same_in(rt, key.number, ticks, expected);
     key.compared.set(0);
     let same = tree.address_of(&key) == found;
-    assert_true_in(rt, key.number, same && expected <= 18);
+    assert_same_in(rt, key.number, same && expected <= 18, true);
     assert_same_in(rt, key.number, key.compared.get() as usize, expected);
     let (Ok(addr) | Err(addr)) = found;
     addr
@@ -246,17 +254,17 @@ fn check_under<'a, C: NodesMut<Counted<'a>, u32>>(
     assert_same_in(rt, (number, id), compared.get() as usize, promised);
     compared.set(0);
     assert_same(rt, tree.get_in(&key, id).is_some(), is_there);
-    assert_true_in(rt, (number, id), compared.get() as usize <= promised);
+    assert_same_in(rt, (number, id), compared.get() as usize <= promised, true);
     compared.set(0);
     let fits = tree.key_fits_in(id, &key);
-    assert_true_in(rt, (number, id), compared.get() <= 2);
-    assert_true_in(rt, (number, id), fits || !is_there);
+    assert_same_in(rt, (number, id), compared.get() <= 2, true);
+    assert_same_in(rt, (number, id), fits || !is_there, true);
     if fits {
-        assert_true_in(rt, (number, id), fits_at_its_gap(tree, id, &key));
+        assert_same_in(rt, (number, id), fits_at_its_gap(tree, id, &key), true);
     }
     compared.set(0);
     assert_same(rt, tree.get_mut_in(&key, id).is_some(), is_there);
-    assert_true_in(rt, (number, id), compared.get() as usize <= promised);
+    assert_same_in(rt, (number, id), compared.get() as usize <= promised, true);
 }
 
 // Searches for each of the keys and each number between under each of the twelve nodes.
@@ -293,7 +301,7 @@ fn remove_each<'a, C: NodesMut<Counted<'a>, u32> + Drop>(
         let removed = tree
             .remove_entry(&Counted { number, compared })
             .map(|pair| pair.1);
-        assert_true_in(rt, number, compared.get() as usize <= 6 * levels);
+        assert_same_in(rt, number, compared.get() as usize <= 6 * levels, true);
         let value = if number % 2 == 1 {
             Some(number / 2)
         } else {
