@@ -25,3 +25,27 @@ pub(crate) fn assert_same_in<N: PartialEq + Debug + Copy + Drop, T: PartialEq + 
 ) {
     assert_same(rt, (case, left), (case, right));
 }
+
+/// Returns what a call gives. Stops the test where that is an error.
+pub(crate) fn given<T, E: Drop>(rt: &impl Abort, outcome: Result<T, E>) -> T {
+    match outcome {
+        Ok(value) => value,
+        Err(_) => panic!(rt; "an error"),
+    }
+}
+
+/// Returns the error of a call. Stops the test where there is none.
+pub(crate) fn refused<T: Drop, E>(rt: &impl Abort, outcome: Result<T, E>) -> E {
+    match outcome {
+        Ok(_) => panic!(rt; "no error"),
+        Err(error) => error,
+    }
+}
+
+/// Returns what is there. Stops the test where nothing is.
+pub(crate) fn some<T>(rt: &impl Abort, option: Option<T>) -> T {
+    match option {
+        Some(value) => value,
+        None => panic!(rt; "none"),
+    }
+}

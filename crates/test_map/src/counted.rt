@@ -1,6 +1,6 @@
 //! Calls by key search once: at most six comparisons at each level, by keys that count them. An extension by ascending pairs
 //! or elements, or by copies of them, compares each with the last one alone. An entry and an editing cursor insert and remove without any.
-use crate::asserts::{assert_same, assert_same_in, assert_true};
+use crate::asserts::{assert_same, assert_same_in, assert_true, given};
 use btree_ext::BTreeExt;
 use btree_item::{After, Before, Query};
 use btree_map::{BTreeMap, EntriesMut, Entry};
@@ -25,6 +25,20 @@ impl<'a> Counting<'a> for Counted<'a> {
 
 type Store<'a> = SlabStore<Node<Counted<'a>, u32>>;
 
+// Returns whether the entry of a key is occupied.
+fn has_entry<K: Ord + Drop, C: NodesMut<K, u32>>(map: &mut BTreeMap<K, u32, C>, key: K) -> bool {
+    match map.entry(key) {
+        Entry::Occupied(_) => true,
+        Entry::Vacant(_) => false,
+    }
+}
+
+// Checks whether a number was found, as odd ones are, with at most `most` comparisons.
+fn check_found(rt: &impl Abort, number: u32, is_found: bool, compared: &Cell<u32>, most: u32) {
+    let found = (is_found, compared.get() <= most);
+    assert_same_in(rt, number, found, (number % 2 == 1, true));
+}
+
 // Asks for a key in three ways, each of which compares at most `most` keys.
 fn ask<'a, K: Ord + Drop + Counting<'a>, C: NodesMut<K, u32>>(
     rt: &impl Abort,
@@ -34,34 +48,27 @@ fn ask<'a, K: Ord + Drop + Counting<'a>, C: NodesMut<K, u32>>(
     most: u32,
 ) {
     let key = K::counting(number, compared);
-    let is_there = number % 2 == 1;
     compared.set(0);
     let contains = map.contains_key(&key);
-    assert_same_in(
-        rt,
-        number,
-        contains == is_there && compared.get() <= most,
-        true,
-    );
+    check_found(rt, number, contains, compared, most);
     compared.set(0);
     let finds = map.get_key_value(&key).is_some();
-    assert_same_in(
-        rt,
-        number,
-        finds == is_there && compared.get() <= most,
-        true,
-    );
+    check_found(rt, number, finds, compared, most);
     compared.set(0);
-    let is_occupied = match map.entry(key) {
-        Entry::Occupied(_) => true,
-        Entry::Vacant(_) => false,
-    };
-    assert_same_in(
-        rt,
-        number,
-        is_occupied == is_there && compared.get() <= most,
-        true,
-    );
+    let is_occupied = has_entry(map, key);
+    check_found(rt, number, is_occupied, compared, most);
+}
+
+// Puts a key back, if it was removed.
+fn put_back<K: Ord + Drop, C: NodesMut<K, u32>>(
+    rt: &impl Abort,
+    map: &mut BTreeMap<K, u32, C>,
+    key: K,
+    value: Option<u32>,
+) {
+    if let Some(value) = value {
+        assert_same(rt, map.insert(key, value).ok(), Some(None));
+    }
 }
 
 // Finds the address of a key, and removes the key if it is there, by itself or as a query, each with no more comparisons than a look-up
@@ -77,29 +84,18 @@ fn remove_once<'a, K: Ord + Drop + Counting<'a>, C: NodesMut<K, u32>>(
     compared.set(0);
     let is_there = map.contains_key(&key);
     let most = compared.get();
+    check_found(rt, number, is_there, compared, most);
     compared.set(0);
     let is_found = map.address_by(&key).is_ok();
-    assert_same_in(
-        rt,
-        number,
-        is_found == is_there && compared.get() <= most,
-        true,
-    );
+    check_found(rt, number, is_found, compared, most);
     compared.set(0);
     let removed = if is_query {
         map.remove_by(&key)
     } else {
         map.remove(&key)
     };
-    assert_same_in(
-        rt,
-        number,
-        removed.is_some() == is_there && compared.get() <= most,
-        true,
-    );
-    if let Some(value) = removed {
-        assert_same_in(rt, number, map.insert(key, value).ok(), Some(None));
-    }
+    check_found(rt, number, removed.is_some(), compared, most);
+    put_back(rt, map, key, removed);
 }
 
 // Seeks a place where no key is, with at most `most` comparisons.
@@ -112,7 +108,7 @@ fn seek_place<K: Ord, Q: Query<K>, C: NodesMut<K, u32>>(
 ) {
     compared.set(0);
     let is_there = map.contains_key_by(query);
-    assert_true(rt, !is_there && compared.get() <= most);
+    assert_same(rt, (is_there, compared.get() <= most), (false, true));
 }
 
 // Seeks the places before and after a key: no more comparisons than for the key, and at most twice as many.
@@ -421,10 +417,10 @@ fn elements<'a, C: NodesMut<Counted<'a>, ()> + Drop>(
     (start, end): (u32, u32),
 ) -> BTreeSet<Counted<'a>, C> {
     let mut source = (start..end).map(move |number| Counted { number, compared });
-    match BTreeSet::<Counted<'a>, C>::from_iter(origin, &mut source) {
-        Ok(set) => set,
-        Err(_) => panic!(rt; "refused"),
-    }
+    given(
+        rt,
+        BTreeSet::<Counted<'a>, C>::from_iter(origin, &mut source),
+    )
 }
 
 // Extends a set of 44 ascending elements, which was made by 43 comparisons, by the next 44, by one each. Of two that are not above the last

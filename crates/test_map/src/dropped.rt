@@ -1,5 +1,5 @@
 //! Values that count their drops: each is dropped once, by an iterator that owns a map, by a drain, and by `retain`.
-use crate::asserts::{assert_same, assert_true};
+use crate::asserts::{assert_same, assert_true, given, some};
 use crate::drops::{Counted, Dropping, hundred};
 use btree_ext::BTreeExt;
 use btree_map::{BTreeMap, IntoIter};
@@ -10,19 +10,16 @@ use std::process::Abort;
 
 // Checks that a pair is there, and that its value knows its key.
 fn check_pair<'a, V: Drop + Dropping<'a>>(rt: &impl Abort, pair: Option<(u64, V)>, key: u64) {
-    match pair {
-        Some((found, value)) => {
-            assert_same(rt, (found, value.key()), (key, key));
-        }
-        None => panic!(rt; "{key} is not there"),
-    }
+    let (found, value) = some(rt, pair);
+    assert_same(rt, (found, value.key()), (key, key));
 }
 
 // Checks that no pair is left, at either end.
 fn check_ended<V: Drop, C: NodesMut<u64, V> + Drop>(rt: &impl Abort, pairs: IntoIter<u64, V, C>) {
     let mut pairs = pairs;
     for _ in 0..2 {
-        assert_true(rt, pairs.next().is_none() && pairs.next_back().is_none());
+        let ended = (pairs.next().is_none(), pairs.next_back().is_none());
+        assert_same(rt, ended, (true, true));
         assert_same(rt, (pairs.len(), pairs.size_hint()), (0, (0, Some(0))));
     }
 }
@@ -113,10 +110,8 @@ fn set_and_remove<'a, V: Drop + Dropping<'a>, C: NodesMut<u64, V> + Drop>(
 ) {
     let mut map = map;
     let value = V::dropping(5, drops);
-    match map.entry(5).insert_entry(value) {
-        Ok(entry) => assert_same(rt, (*entry.key(), entry.get().key()), (5, 5)),
-        Err(_) => panic!(rt; "refused"),
-    }
+    let entry = given(rt, map.entry(5).insert_entry(value));
+    assert_same(rt, (*entry.key(), entry.get().key()), (5, 5));
     assert_same(rt, drops.get(), 1);
     map.remove_range(40..50);
     assert_same(rt, (drops.get(), map.len()), (11, 90));
@@ -134,13 +129,9 @@ fn split<'a, C: NodesMut<u64, Counted<'a>> + Drop>(
     drops: &'a Cell<u64>,
 ) {
     let mut map = map;
-    match map.split_off(&40, C::empty(origin)) {
-        Ok(moved) => {
-            assert_same(rt, (map.len(), moved.len(), drops.get()), (40, 60, 0));
-            drop(moved);
-        }
-        Err(_) => panic!(rt; "refused"),
-    }
+    let moved = given(rt, map.split_off(&40, C::empty(origin)));
+    assert_same(rt, (map.len(), moved.len(), drops.get()), (40, 60, 0));
+    drop(moved);
     assert_same(rt, drops.get(), 60);
     drop(map);
     assert_same(rt, drops.get(), 100);
@@ -153,10 +144,7 @@ fn fresh<'a, C: NodesMut<u64, Counted<'a>> + Drop>(
     drops: &'a Cell<u64>,
 ) -> BTreeMap<u64, Counted<'a>, C> {
     drops.set(0);
-    let Some(map) = hundred(BTreeMap::new(origin), drops) else {
-        panic!(rt; "no memory")
-    };
-    map
+    some(rt, hundred(BTreeMap::new(origin), drops))
 }
 
 // All of these, over maps in any store.

@@ -5,7 +5,7 @@ ghost use Rattle.std.specs.Cmp.{partial_order_from_own_ties};
 ghost use Rattle.std.specs.Cmp.Rules.{comparing};
 ghost use Rattle.std.specs.Ordering.{as_partial_cmp, nat_cmp, on};
 
-use crate::asserts::{assert_same, assert_true};
+use crate::asserts::{assert_same, assert_true, given, some};
 use btree_map::BTreeMap;
 use btree_node::{Node, NodesMut};
 use btree_set::BTreeSet;
@@ -96,10 +96,7 @@ fn put<K: Ord + Drop + IsNamed, C: NodesMut<K, u64>>(
     name: char,
     value: u64,
 ) -> Option<u64> {
-    match map.insert(K::named(number, name), value) {
-        Ok(old) => old,
-        Err(_) => panic!(rt; "refused"),
-    }
+    given(rt, map.insert(K::named(number, name), value))
 }
 
 // Extends a map by the pairs of another one. Returns whether none was refused.
@@ -135,10 +132,8 @@ fn put_equal<K: Ord + Drop + IsNamed, C: NodesMut<K, u64> + Drop>(
     assert_same(rt, put(rt, &mut map, 2, 'b', 20), Some(2));
     assert_same(rt, stored(&map, 2), Some(('a', 20)));
     let key = K::named(2, 'c');
-    match map.replace(key, 30) {
-        Ok(Some((key, value))) => assert_same(rt, (key.parts(), value), ((2, 'a'), 20)),
-        Ok(None) | Err(_) => panic!(rt; "not replaced"),
-    }
+    let (key, value) = some(rt, given(rt, map.replace(key, 30)));
+    assert_same(rt, (key.parts(), value), ((2, 'a'), 20));
     assert_same(rt, stored(&map, 2), Some(('c', 30)));
     assert_same(rt, put(rt, &mut other, 1, 'd', 9), None);
     assert_true(rt, map.append(&mut other).is_ok());
@@ -151,10 +146,8 @@ fn change_equal<K: Ord + Drop + IsNamed, C: NodesMut<K, u64>>(
     rt: &impl Abort,
     map: &mut BTreeMap<K, u64, C>,
 ) {
-    match map.entry(K::named(1, 'b')).or_insert(7) {
-        Ok(value) => *value = value.wrapping_add(1),
-        Err(_) => panic!(rt; "refused"),
-    }
+    let value = given(rt, map.entry(K::named(1, 'b')).or_insert(7));
+    *value = value.wrapping_add(1);
     assert_same(rt, stored(map, 1), Some(('a', 2)));
     assert_same(
         rt,
@@ -179,10 +172,8 @@ fn reach_equal<K: Ord + Drop + IsNamed, C: NodesMut<K, u64> + Drop>(
     assert_same(rt, stored(&map, 1), Some(('a', 4)));
     assert_same(rt, stored(&map, 2), Some(('b', 6)));
     let asked = K::named(1, 'd');
-    match map.remove_entry(&asked) {
-        Some((key, value)) => assert_same(rt, (key.parts(), value), ((1, 'a'), 4)),
-        None => panic!(rt; "not removed"),
-    }
+    let (key, value) = some(rt, map.remove_entry(&asked));
+    assert_same(rt, (key.parts(), value), ((1, 'a'), 4));
     assert_same(rt, map.len(), 1);
 }
 
@@ -190,13 +181,12 @@ fn reach_equal<K: Ord + Drop + IsNamed, C: NodesMut<K, u64> + Drop>(
 fn collect_equal<C: NodesMut<Named, u64> + Drop>(rt: &impl Abort, origin: C::Origin) {
     let names = [(1, 'a', 1), (2, 'a', 2), (1, 'b', 3)];
     let mut source = names.iter().map(|&(number, name, value)| (Named::named(number, name), value));
-    match BTreeMap::<Named, u64, C>::from_iter(origin, &mut source) {
-        Ok(map) => {
-            assert_same(rt, map.len(), 2);
-            assert_same(rt, stored(&map, 1), Some(('a', 3)));
-        }
-        Err(_) => panic!(rt; "refused"),
-    }
+    let map = given(
+        rt,
+        BTreeMap::<Named, u64, C>::from_iter(origin, &mut source),
+    );
+    assert_same(rt, map.len(), 2);
+    assert_same(rt, stored(&map, 1), Some(('a', 3)));
 }
 
 // Inserts the numbers, each with the name, into a set that is empty, and returns it.
@@ -280,10 +270,8 @@ fn insert_equal<K: Ord + Drop + IsNamed, C: NodesMut<K, ()>>(
     let second = K::named(2, 'b');
     assert_same(rt, set.insert(K::named(2, 'b')).ok(), Some(false));
     assert_same(rt, parts(set.get(&second)), Some((2, 'a')));
-    match set.replace(K::named(2, 'b')) {
-        Ok(old) => assert_same(rt, parts(old.as_ref()), Some((2, 'a'))),
-        Err(_) => panic!(rt; "refused"),
-    }
+    let old = given(rt, set.replace(K::named(2, 'b')));
+    assert_same(rt, parts(old.as_ref()), Some((2, 'a')));
     assert_same(rt, parts(set.get(&second)), Some((2, 'b')));
 }
 

@@ -1,6 +1,6 @@
 //! How often each node is asked for to be read, by a store that counts it. 44 ascending keys have twelve nodes on three levels, with the
 //! numbers from 0 to 11.
-use crate::asserts::assert_same_in;
+use crate::asserts::{assert_same_in, given};
 use crate::samples::first_keys;
 use btree_map::BTreeMap;
 use btree_node::{Node, NodesMut};
@@ -23,7 +23,12 @@ fn level_of(key: u64) -> u64 {
 }
 
 // Checks how often nodes were asked for, and how often one of them at most, and begins anew.
-fn check<N: PartialEq + Debug + Copy + Drop>(rt: &impl Abort, case: N, asked: &Asked, expected: (u64, u64)) {
+fn check<N: PartialEq + Debug + Copy + Drop>(
+    rt: &impl Abort,
+    case: N,
+    asked: &Asked,
+    expected: (u64, u64),
+) {
     assert_same_in(rt, case, (asked.all(), asked.most()), expected);
     asked.restart();
 }
@@ -112,9 +117,7 @@ fn walk_map<C: NodesMut<u64, u64> + Drop>(rt: &impl Abort, origin: C::Origin, as
 }
 
 fn walk_set<C: NodesMut<u64, ()> + Drop>(rt: &impl Abort, origin: C::Origin, asked: &Asked) {
-    let Ok(set) = BTreeSet::<u64, C>::from_iter(origin, &mut (0..44u64)) else {
-        panic!(rt; "refused")
-    };
+    let set = given(rt, BTreeSet::<u64, C>::from_iter(origin, &mut (0..44u64)));
     asked.restart();
     for is_back in [false, true] {
         check_walk(rt, set.iter(), is_back, asked);

@@ -1,5 +1,5 @@
 //! Maps over a fixed table of nodes.
-use crate::asserts::{assert_same, assert_same_in, assert_true};
+use crate::asserts::{assert_same, assert_same_in, assert_true, given, refused};
 use crate::samples::first_keys;
 use btree_ext::BTreeExt;
 use btree_item::Cause;
@@ -22,13 +22,12 @@ pub(crate) fn check_table<C: NodesMut<u64, u64> + Drop>(
     for key in 0..taken {
         assert_same(rt, map.insert(key, key).ok(), Some(None));
     }
-    match map.insert(taken, 5) {
-        Ok(_) => panic!(rt; "not refused"),
-        Err(refused) => {
-            assert_same(rt, refused.cause, Cause::Store);
-            assert_same(rt, (refused.key, refused.value), (taken, 5));
-        }
-    }
+    let back = refused(rt, map.insert(taken, 5));
+    assert_same(
+        rt,
+        (back.cause, back.key, back.value),
+        (Cause::Store, taken, 5),
+    );
     assert_same(rt, map.len() as u64, taken);
     assert_same(rt, map.node_count(), nodes);
 }
@@ -64,13 +63,12 @@ fn append_to_one<C: NodesMut<u64, u64> + Drop>(
     for pair in [(3, 31), (8, 81), (9, 91)] {
         assert_true(rt, other.insert(pair.0, pair.1).is_ok());
     }
-    match map.append(&mut other) {
-        Ok(()) => panic!(rt; "not refused"),
-        Err(refused) => {
-            assert_same(rt, refused.cause, Cause::Store);
-            assert_same(rt, (refused.key, refused.value), (8, 81));
-        }
-    }
+    let back = refused(rt, map.append(&mut other));
+    assert_same(
+        rt,
+        (back.cause, back.key, back.value),
+        (Cause::Store, 8, 81),
+    );
     let (a, b, c) = ((0, 0), (1, 10), (2, 20));
     let (d, e, f) = ((3, 31), (4, 40), (5, 50));
     check_pairs(rt, &map, &[a, b, c, d, e, f, (6, 60), (7, 70)]);
@@ -89,18 +87,12 @@ fn set_value<C: NodesMut<u64, u64>>(
 
 // Updates an absent key of such a map, which is refused, and then one that is there.
 fn update_in_one<C: NodesMut<u64, u64> + Drop>(rt: &impl Abort, mut map: BTreeMap<u64, u64, C>) {
-    match map.update(8, |old| (Some(80), old.is_none())) {
-        Ok(_) => panic!(rt; "not refused"),
-        Err(refused) => {
-            assert_same(rt, (refused.key, refused.cause), (8, Cause::Store));
-            let action = refused.action;
-            assert_same(rt, action(None), (Some(80), true));
-        }
-    }
-    match set_value(&mut map, 8, 80) {
-        Ok(_) => panic!(rt; "not refused"),
-        Err(error) => assert_same(rt, error.kind(), io::ErrorKind::OutOfMemory),
-    }
+    let back = refused(rt, map.update(8, |old| (Some(80), old.is_none())));
+    assert_same(rt, (back.key, back.cause), (8, Cause::Store));
+    let action = back.action;
+    assert_same(rt, action(None), (Some(80), true));
+    let error = refused(rt, set_value(&mut map, 8, 80));
+    assert_same(rt, error.kind(), io::ErrorKind::OutOfMemory);
     assert_same(rt, set_value(&mut map, 7, 77).ok(), Some(Some(70)));
     assert_same(rt, map.len(), 8);
     assert_same(rt, map.update(3, |_| (None, 7u64)).ok(), Some(7));
@@ -123,13 +115,9 @@ fn a_table_of_one_node_hands_back(rt: HostRuntime) {
 
 fn clone_table<C: CloneNodes<u64, u64> + Drop>(rt: &impl Abort, origin: C::Origin) {
     let map = first_keys::<C>(rt, origin, 43);
-    match map.clone() {
-        Ok(copy) => {
-            assert_true(rt, copy == map);
-            assert_same(rt, (copy.len(), copy.node_count()), (43, 9));
-        }
-        Err(_) => panic!(rt; "no clone"),
-    }
+    let copy = given(rt, map.clone());
+    assert_true(rt, copy == map);
+    assert_same(rt, (copy.len(), copy.node_count()), (43, 9));
 }
 
 #[test]
@@ -197,14 +185,13 @@ fn collect_nine<C: NodesMut<u64, u64> + Drop>(rt: &impl Abort, origin: C::Origin
         (8, 80),
     ];
     let mut source = pairs.iter().copied();
-    match BTreeMap::<u64, u64, C>::from_iter(origin, &mut source) {
-        Ok(_) => panic!(rt; "not refused"),
-        Err((map, refused)) => {
-            assert_same(rt, refused.cause, Cause::Store);
-            assert_same(rt, (refused.key, refused.value), (8, 80));
-            check_pairs(rt, &map, pairs.split_at(8).0);
-        }
-    }
+    let (map, back) = refused(rt, BTreeMap::<u64, u64, C>::from_iter(origin, &mut source));
+    assert_same(
+        rt,
+        (back.cause, back.key, back.value),
+        (Cause::Store, 8, 80),
+    );
+    check_pairs(rt, &map, pairs.split_at(8).0);
     assert_same(rt, source.next(), None);
 }
 

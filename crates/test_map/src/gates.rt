@@ -1,5 +1,5 @@
 //! Maps and sets in a store that is there, behind a gate that refuses one node.
-use crate::asserts::{assert_same, assert_same_in, assert_true};
+use crate::asserts::{assert_same, assert_same_in, assert_true, refused};
 use btree_ext::BTreeExt;
 use btree_item::Cause;
 use btree_map::BTreeMap;
@@ -94,10 +94,8 @@ fn insert_elements<C: NodesMut<u64, ()> + Drop>(rt: &impl Abort, nodes: C) {
     for element in 0..8 {
         assert_same(rt, set.insert(element).ok(), Some(true));
     }
-    match set.insert(8) {
-        Ok(_) => panic!(rt; "not refused"),
-        Err(refused) => assert_same(rt, (refused.cause, refused.key), (Cause::Store, 8)),
-    }
+    let back = refused(rt, set.insert(8));
+    assert_same(rt, (back.cause, back.key), (Cause::Store, 8));
     assert_same(rt, set.len(), 8);
     assert_true(rt, !set.contains(&8));
     assert_same(rt, set.insert(8).ok(), Some(true));

@@ -1,5 +1,5 @@
 //! Look-up by a text, by a slice and by a place beside keys.
-use crate::asserts::{assert_same, assert_same_in, assert_true};
+use crate::asserts::{assert_same, assert_same_in, assert_true, given};
 use crate::samples::first_keys;
 use btree_ext::BTreeExt;
 use btree_item::{Address, After, AfterFirst, Before, BeforeFirst, Query};
@@ -24,10 +24,8 @@ fn count<C: NodesMut<String, u64>>(
         *count = count.wrapping_add(1);
         return;
     }
-    match String::from_str(alloc, word) {
-        Ok(word) => assert_true(rt, counts.insert(word, 1).is_ok()),
-        Err(_) => panic!(rt; "no memory"),
-    }
+    let word = given(rt, String::from_str(alloc, word));
+    assert_true(rt, counts.insert(word, 1).is_ok());
 }
 
 // Checks the calls by text at one word: how often it was counted, and none after it was taken out.
@@ -73,10 +71,8 @@ fn count_words<C: NodesMut<String, u64> + Drop>(rt: &impl Abort, origin: C::Orig
 fn hold_words<C: NodesMut<String, ()> + Drop>(rt: &impl Abort, origin: C::Origin, alloc: Global) {
     let mut words: BTreeSet<String, C> = BTreeSet::new(origin);
     for word in ["the", "cat", "and", "the"] {
-        match String::from_str(alloc, word) {
-            Ok(word) => assert_true(rt, words.insert(word).is_ok()),
-            Err(_) => panic!(rt; "no memory"),
-        }
+        let word = given(rt, String::from_str(alloc, word));
+        assert_true(rt, words.insert(word).is_ok());
     }
     for (word, is_there) in [("the", true), ("cat", true), ("th", false)] {
         assert_same_in(rt, word, words.contains_by(&word), is_there);
@@ -96,7 +92,8 @@ fn hold_lists<C: NodesMut<Vec<u64>, ()> + Drop>(rt: &impl Abort, origin: C::Orig
     let mut lists: BTreeSet<Vec<u64>, C> = BTreeSet::new(origin);
     for second in [1u64, 4, 2] {
         let mut list = Vec::new(alloc);
-        assert_true(rt, list.push(7).is_ok() && list.push(second).is_ok());
+        given(rt, list.push(7));
+        given(rt, list.push(second));
         assert_true(rt, lists.insert(list).is_ok());
     }
     for second in 0..5u64 {
@@ -112,10 +109,8 @@ fn hold_lists<C: NodesMut<Vec<u64>, ()> + Drop>(rt: &impl Abort, origin: C::Orig
 // The text of a number.
 fn text_of(rt: &impl Abort, alloc: Global, number: u64) -> String {
     let mut text = String::new(alloc);
-    match write!(text, "{number}") {
-        Ok(()) => text,
-        Err(_) => panic!(rt; "no memory"),
-    }
+    given(rt, write!(text, "{number}"));
+    text
 }
 
 // Checks the calls by text at one number of a map in which the texts of 10 to 53 have their numbers as values. Puts back what was removed.

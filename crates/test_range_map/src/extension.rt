@@ -1,5 +1,5 @@
 //! Maps that are extended by the ranges of an iterator.
-use crate::asserts::{assert_same, assert_true};
+use crate::asserts::{assert_same, assert_true, refused};
 use crate::checks::{Heap, check_ranges, range};
 use btree_node::NodesMut;
 use btree_range_map::{RangeCause, RangeMap, Span};
@@ -49,13 +49,9 @@ fn extend_a_full_map<C: NodesMut<u64, Span<u64>> + Drop>(
         range(4, 5, 1),
     ];
     let mut source = ranges.iter().copied();
-    match map.extend(&mut source) {
-        Ok(()) => panic!(rt; "not refused"),
-        Err(refused) => {
-            assert_same(rt, (refused.key, refused.value), range(3, 4, 3));
-            assert_same(rt, refused.cause, RangeCause::Count);
-        }
-    }
+    let back = refused(rt, map.extend(&mut source));
+    assert_same(rt, (back.key, back.value), range(3, 4, 3));
+    assert_same(rt, back.cause, RangeCause::Count);
     check_ranges(rt, &map, &[(1, 3, 2), (5, 9, 1)]);
     assert_same(rt, step(&mut source), Some(range(4, 5, 1)));
 }

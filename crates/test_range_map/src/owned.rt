@@ -1,5 +1,5 @@
 //! Maps whose values own memory.
-use crate::asserts::{assert_same, assert_true};
+use crate::asserts::{assert_same, assert_true, given, refused, some};
 use crate::texts::{IsText, Text};
 use btree_node::{ClearNodes, Node, NodesMut};
 use btree_range_map::{RangeCause, RangeMap, Span};
@@ -12,7 +12,7 @@ type Heap = SlabStore<Node<u64, Span<Text>>>;
 // Returns a text. Of the allocations of its clone one may be refused.
 fn text<V: IsText + Drop>(rt: &impl Abort, alloc: Global, refuses: u64, letters: &str) -> V {
     let mut text = V::empty(alloc, refuses);
-    assert_true(rt, text.push(letters).is_ok());
+    given(rt, text.push(letters));
     text
 }
 
@@ -43,13 +43,9 @@ fn check_text<V: IsText>(
     range: Option<(u64, &Span<V>)>,
     (start, end, letters): (u64, u64, &str),
 ) {
-    match range {
-        Some((first, span)) => {
-            let found = (first, span.end, span.value.letters());
-            assert_same(rt, found, (start, end, letters));
-        }
-        None => panic!(rt; "no range"),
-    }
+    let (first, span) = some(rt, range);
+    let found = (first, span.end, span.value.letters());
+    assert_same(rt, found, (start, end, letters));
 }
 
 // Checks the ranges of a map, each with its text.
@@ -182,12 +178,10 @@ fn refuse<V: Clone + Eq + Drop + IsText, C: NodesMut<u64, Span<V>>>(
     let old = text(rt, alloc, 1, "old");
     assert_true(rt, map.insert(10, 20, old).is_ok());
     let new = text(rt, alloc, 0, "new");
-    let Err(refused) = map.insert(12, 15, new) else {
-        panic!(rt; "not refused")
-    };
+    let back = refused(rt, map.insert(12, 15, new));
     check_texts(rt, map, &[(10, 20, "old")]);
-    assert_same(rt, (refused.cause, refused.key), (RangeCause::Clone, 12));
-    let Span { end, value } = refused.value;
+    assert_same(rt, (back.cause, back.key), (RangeCause::Clone, 12));
+    let Span { end, value } = back.value;
     assert_same(rt, (end, value.letters()), (15, "new"));
     assert_true(rt, map.remove(11, 19).is_err());
     assert_true(rt, map.insert(5, 12, value).is_ok());

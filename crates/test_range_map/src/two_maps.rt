@@ -1,5 +1,5 @@
 //! Maps that are compared, and clones.
-use crate::asserts::{assert_same, assert_true};
+use crate::asserts::{assert_same, assert_true, given};
 use crate::checks::{Call, Heap, OneNode, Outcome, Ranges, call, check_ranges};
 use btree_node::{CloneNodes, NodesMut};
 use btree_range_map::{RangeCause, RangeMap, Span};
@@ -55,9 +55,7 @@ const TWO: Ranges = &[(1, 5, 1), (5, 9, 2)];
 // A clone has the same ranges and limit. It changes by itself.
 fn clone_one<C: CloneNodes<u64, Span<u64>> + Drop>(rt: &impl Abort, mut map: RangeMap<u64, C>) {
     do_all(rt, &mut map, &[(1, 5, Some(1)), (5, 9, Some(2))]);
-    let Ok(mut copy) = map.clone() else {
-        panic!(rt; "no clone")
-    };
+    let mut copy = given(rt, map.clone());
     check_ranges(rt, &copy, TWO);
     assert_true(rt, copy == map);
     let more = (20, 30, Some(1));

@@ -1,5 +1,5 @@
 //! Checks of sets, and sets to begin with.
-use crate::asserts::{assert_same, assert_true};
+use crate::asserts::{assert_same, assert_true, refused};
 use btree_item::{Cause, Refused};
 use btree_node::{ClearNodes, NodesMut};
 use btree_range_set::RangeSet;
@@ -47,13 +47,8 @@ pub(crate) fn check_refused(
     start: u64,
     end: u64,
 ) {
-    match outcome {
-        Ok(()) => panic!(rt; "not refused"),
-        Err(refused) => {
-            assert_same(rt, refused.cause, cause);
-            assert_same(rt, (refused.key, refused.value), (start, end));
-        }
-    }
+    let back = refused(rt, outcome);
+    assert_same(rt, (back.cause, back.key, back.value), (cause, start, end));
 }
 
 // Gives a set these ranges, and no other.

@@ -1,5 +1,5 @@
 //! Sets made from maps.
-use crate::asserts::{assert_same, assert_true};
+use crate::asserts::{assert_same, assert_true, given, refused};
 use crate::checks::check_ranges;
 use btree_ext::{BTreeExt, BTreeExtMut};
 use btree_map::BTreeMap;
@@ -27,14 +27,10 @@ fn check_taken<C: NodesMut<u64, u64> + Drop>(
     origin: C::Origin,
     pairs: &[(u64, u64)],
 ) {
-    match RangeSet::from_map(map_of::<C>(rt, origin, pairs)) {
-        Ok(set) => {
-            check_ranges(rt, &set, pairs);
-            assert_same(rt, set.as_map().len(), pairs.len());
-            assert_same(rt, set.into_map().len(), pairs.len());
-        }
-        Err(_map) => panic!(rt; "not a set"),
-    }
+    let set = given(rt, RangeSet::from_map(map_of::<C>(rt, origin, pairs)));
+    check_ranges(rt, &set, pairs);
+    assert_same(rt, set.as_map().len(), pairs.len());
+    assert_same(rt, set.into_map().len(), pairs.len());
 }
 
 // Checks that no set has these pairs, which come back.
@@ -43,15 +39,11 @@ fn check_returned<C: NodesMut<u64, u64> + Drop>(
     origin: C::Origin,
     pairs: &[(u64, u64)],
 ) {
-    match RangeSet::from_map(map_of::<C>(rt, origin, pairs)) {
-        Ok(_set) => panic!(rt; "a set"),
-        Err(map) => {
-            for (start, end) in pairs.iter() {
-                assert_same(rt, map.get(start).copied(), Some(*end));
-            }
-            assert_same(rt, map.len(), pairs.len());
-        }
+    let map = refused(rt, RangeSet::from_map(map_of::<C>(rt, origin, pairs)));
+    for (start, end) in pairs.iter() {
+        assert_same(rt, map.get(start).copied(), Some(*end));
     }
+    assert_same(rt, map.len(), pairs.len());
 }
 
 type Heap = SlabStore<Node<u64, u64>>;

@@ -1,5 +1,5 @@
 //! A set that is changed by another one, and two that are compared.
-use crate::asserts::assert_true;
+use crate::asserts::{assert_same, assert_true, given};
 use crate::checks::{EIGHT, check_ranges, check_refused, fill};
 use btree_item::{Cause, Refused};
 use btree_more_stores::{FixedSlab, OddSlab};
@@ -54,7 +54,7 @@ const CASES: [(Ranges, Ranges, Ranges, Ranges, Ranges); 9] = [
 ];
 
 // Changes the first set of each case by the second, which stays.
-fn change<C: ClearNodes<u64, u64> + Drop, D: ClearNodes<u64, u64> + Drop>(
+fn change_each<C: ClearNodes<u64, u64> + Drop, D: ClearNodes<u64, u64> + Drop>(
     rt: &impl Abort,
     mut set: RangeSet<C>,
     mut other: RangeSet<D>,
@@ -76,7 +76,7 @@ fn change<C: ClearNodes<u64, u64> + Drop, D: ClearNodes<u64, u64> + Drop>(
 
 #[test]
 fn changes_by_another_set(rt: HostRuntime) {
-    change::<SlabStore<Node<u64, u64>>, OddSlab<Node<u64, u64>>>(
+    change_each::<SlabStore<Node<u64, u64>>, OddSlab<Node<u64, u64>>>(
         &rt,
         RangeSet::new(rt.alloc()),
         RangeSet::new(rt.alloc()),
@@ -177,25 +177,36 @@ fn refuses_a_ninth_range(rt: HostRuntime) {
     );
 }
 
+// Checks whether two sets have the same numbers, asked of either.
+fn check_same<C: NodesMut<u64, u64>, D: NodesMut<u64, u64>>(
+    rt: &impl Abort,
+    left: &RangeSet<C>,
+    right: &RangeSet<D>,
+    are: bool,
+) {
+    let found = (left.same_numbers(right), right.same_numbers(left));
+    assert_same(rt, found, (are, are));
+}
+
 // Two sets with the same numbers, which came in different ways, and with others.
 fn compare<C: NodesMut<u64, u64> + Drop, D: NodesMut<u64, u64> + Drop>(
     rt: &impl Abort,
     mut set: RangeSet<C>,
     mut other: RangeSet<D>,
 ) {
-    assert_true(rt, set.same_numbers(&other));
+    check_same(rt, &set, &other, true);
     assert_true(rt, set.insert(1, 9).is_ok());
-    assert_true(rt, !set.same_numbers(&other) && !other.same_numbers(&set));
+    check_same(rt, &set, &other, false);
     for (start, end) in [(5, 9), (1, 3), (3, 5)] {
         assert_true(rt, other.insert(start, end).is_ok());
     }
-    assert_true(rt, set.same_numbers(&other) && other.same_numbers(&set));
+    check_same(rt, &set, &other, true);
     assert_true(rt, other.remove(4, 5).is_ok());
-    assert_true(rt, !set.same_numbers(&other));
+    check_same(rt, &set, &other, false);
     assert_true(rt, set.remove(4, 5).is_ok());
-    assert_true(rt, set.same_numbers(&other));
+    check_same(rt, &set, &other, true);
     assert_true(rt, other.insert(8, u64::MAX).is_ok());
-    assert_true(rt, !set.same_numbers(&other) && !other.same_numbers(&set));
+    check_same(rt, &set, &other, false);
 }
 
 // A clone has the same ranges and limit. It changes by itself.
@@ -203,9 +214,7 @@ fn clone_one<C: CloneNodes<u64, u64> + Drop>(rt: &impl Abort, mut set: RangeSet<
     for (start, end) in EIGHT {
         assert_true(rt, set.insert(start, end).is_ok());
     }
-    let Ok(mut copy) = set.clone() else {
-        panic!(rt; "no clone")
-    };
+    let mut copy = given(rt, set.clone());
     check_ranges(rt, &copy, &EIGHT);
     assert_true(rt, copy == set);
     check_refused(rt, copy.insert(80, 90), Cause::Count, 80, 90);

@@ -26,10 +26,18 @@ pub(crate) fn assert_same_in<N: PartialEq + Debug + Copy + Drop, T: PartialEq + 
     assert_same(rt, (case, left), (case, right));
 }
 
-/// Returns what a call gives. Stops the test where that is an error, with a message that has it.
-pub(crate) fn given<T, E: Debug + Drop>(rt: &impl Abort, outcome: Result<T, E>) -> T {
+/// Returns what a call gives. Stops the test where that is an error.
+pub(crate) fn given<T, E: Drop>(rt: &impl Abort, outcome: Result<T, E>) -> T {
     match outcome {
         Ok(value) => value,
-        Err(error) => panic!(rt; "{error:?}"),
+        Err(_) => panic!(rt; "an error"),
+    }
+}
+
+/// Returns what is there. Stops the test where nothing is.
+pub(crate) fn some<T>(rt: &impl Abort, option: Option<T>) -> T {
+    match option {
+        Some(value) => value,
+        None => panic!(rt; "none"),
     }
 }

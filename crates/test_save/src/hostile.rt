@@ -1,5 +1,5 @@
 //! Bytes that no one saved.
-use crate::asserts::{assert_same, assert_true, given};
+use crate::asserts::{assert_same, assert_true, given, some};
 use crate::maps::{Slots, saved_squares};
 use crate::verdicts::{Tally, Verdict, tried};
 use crate::words::{MAGIC, add_sum, bytes_of_words, put_word};
@@ -26,16 +26,27 @@ fn sum_anew(rt: &impl Abort, bytes: &mut Vec<u8>) {
     add_sum(rt, bytes);
 }
 
+// Returns where bytes are found to be no image, if they are.
+fn fault_in(rt: &impl Abort, alloc: Global, bytes: &[u8]) -> Option<usize> {
+    match tried(rt, alloc, bytes) {
+        Verdict::Image(_, at) => Some(at),
+        _ => None,
+    }
+}
+
+// Checks that bytes are no image.
+fn check_no_image(rt: &impl Abort, alloc: Global, bytes: &[u8]) {
+    let at = some(rt, fault_in(rt, alloc, bytes));
+    assert_true(rt, at <= bytes.len());
+}
+
 // Changes a byte. With the old check sum the bytes are no image, and with the right one they may be.
 fn change(rt: &impl Abort, alloc: Global, bytes: &[u8], (at, mask): (usize, u8)) -> Verdict {
     let mut other = given(rt, bytes.to_vec(alloc));
     if let Some(byte) = other.get_mut(at) {
         *byte ^= mask;
     }
-    match tried(rt, alloc, &other) {
-        Verdict::Image(_, _) => {}
-        _ => panic!(rt; "another byte is not seen"),
-    }
+    check_no_image(rt, alloc, &other);
     sum_anew(rt, &mut other);
     tried(rt, alloc, &other)
 }
@@ -58,14 +69,6 @@ fn each_byte_is_changed(rt: HostRuntime) {
     assert_true(&rt, tally.opened > 0);
     assert_true(&rt, tally.images > 0);
     assert_true(&rt, tally.trees > 0);
-}
-
-// Checks that bytes are no image.
-fn check_no_image(rt: &impl Abort, alloc: Global, bytes: &[u8]) {
-    match tried(rt, alloc, bytes) {
-        Verdict::Image(_, at) => assert_true(rt, at <= bytes.len()),
-        _ => panic!(rt; "an image"),
-    }
 }
 
 // Returns bytes with one of them doubled.

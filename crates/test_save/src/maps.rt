@@ -79,10 +79,7 @@ pub(crate) fn check_same<
 >(rt: &impl Abort, left: &BTreeMap<K, V, C>, right: &BTreeMap<K, V, D>) {
     let mut rest = right.iter();
     for (key, value) in left {
-        match rest.next() {
-            Some((other, of_other)) => assert_same(rt, (other, of_other), (key, value)),
-            None => panic!(rt; "fewer pairs"),
-        }
+        assert_same(rt, rest.next(), Some((key, value)));
     }
     assert_same(rt, right.len(), left.len());
 }

@@ -1,5 +1,5 @@
 //! Maps that are saved and opened.
-use crate::asserts::{assert_same, assert_true, given};
+use crate::asserts::{assert_same, assert_true, given, some};
 use crate::maps::{Slots, check_squares, squares};
 use btree_ext::{BTreeExt, BTreeExtMut};
 use btree_item::Address;
@@ -39,10 +39,8 @@ fn go_on<C: NodesMut<u64, u64> + Drop>(
     at: Address,
 ) {
     assert_true(rt, map.is_valid(at));
-    match map.item(at) {
-        Some(item) => assert_same(rt, (*item.key(), *item.value()), (7, 49)),
-        None => panic!(rt; "no pair there"),
-    }
+    let item = some(rt, map.item(at));
+    assert_same(rt, (*item.key(), *item.value()), (7, 49));
     for key in 0..500u64 {
         assert_true(rt, map.insert(key, key).is_ok());
     }

@@ -1,7 +1,7 @@
 //! The bytes of the types that are saved. Each list is written by hand.
 ghost use Rattle.std.specs.Prelude.{◌≡◌, refl};
 
-use crate::asserts::{assert_same, assert_true, given};
+use crate::asserts::{assert_same, assert_true, given, some};
 use btree_range_map::Span;
 use btree_spelled::{Spelled, SpelledAs};
 use std::alloc::Global;
@@ -14,13 +14,9 @@ fn check<T: Spelled + PartialEq + Debug>(rt: &impl Abort, alloc: Global, value: 
     given(rt, value.put(&mut written));
     assert_same(rt, written.as_slice(), bytes);
     given(rt, written.push(9));
-    match T::take(&written) {
-        Some((again, rest)) => {
-            assert_same(rt, again, value);
-            assert_same(rt, rest, [9].as_slice());
-        }
-        None => panic!(rt; "not read"),
-    }
+    let (again, rest) = some(rt, T::take(&written));
+    assert_same(rt, again, value);
+    assert_same(rt, rest, [9].as_slice());
     check_fronts::<T>(rt, bytes);
 }
 
