@@ -1,5 +1,7 @@
 //! A map whose values count how many of them are dropped.
+#[cfg(test)]
 use btree_map::BTreeMap;
+#[cfg(test)]
 use btree_node::NodesMut;
 use std::cell::Cell;
 
@@ -17,12 +19,14 @@ impl<'a> Drop for Counted<'a> {
 }
 
 /// A value that knows its key, and counts its drop.
+#[cfg(test)]
 pub(crate) trait Dropping<'a> {
     fn dropping(key: u64, drops: &'a Cell<u64>) -> Self;
 
     fn key(&self) -> u64;
 }
 
+#[cfg(test)]
 impl<'a> Dropping<'a> for Counted<'a> {
     fn dropping(key: u64, drops: &'a Cell<u64>) -> Counted<'a> {
         Counted { key, drops }
@@ -34,6 +38,7 @@ impl<'a> Dropping<'a> for Counted<'a> {
 }
 
 /// Inserts the keys from 0 to 99 into a map that is empty. Returns it, or `None` if memory ran out.
+#[cfg(test)]
 pub(crate) fn hundred<'a, V: Drop + Dropping<'a>, C: NodesMut<u64, V> + Drop>(
     mut map: BTreeMap<u64, V, C>,
     drops: &'a Cell<u64>,

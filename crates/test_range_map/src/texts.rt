@@ -53,6 +53,7 @@ impl Eq for Text {
 }
 
 /// A value that is a text.
+#[cfg(test)]
 pub(crate) trait IsText {
     /// Returns a text without letters. Of the allocations of each clone the one with the number `refuses` is refused, and for 0 none.
     fn empty(alloc: Global, refuses: u64) -> Self;
@@ -64,6 +65,7 @@ pub(crate) trait IsText {
     fn letters(&self) -> &str;
 }
 
+#[cfg(test)]
 impl IsText for Text {
     fn empty(alloc: Global, refuses: u64) -> Text {
         Text {

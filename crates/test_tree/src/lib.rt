@@ -5,4 +5,5 @@
 mod asserts;
 #[cfg(test)]
 mod counted;
-pub mod visits;
+#[cfg(test)]
+mod visits;

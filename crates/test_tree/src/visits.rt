@@ -7,8 +7,8 @@ use btree_ext::{BTreeExt, Tree};
 use btree_node::NodesMut;
 use btree_steps::Steps;
 
-/// Passes each back address, from the first one on, and counts them: as many as pairs and nodes together.
-pub fn visit_backs<K: Ord, V, C: NodesMut<K, V>>(tree: &Tree<K, V, C>) -> Steps
+// Passes each back address, from the first one on, and counts them: as many as pairs and nodes together.
+pub(crate) fn visit_backs<K: Ord, V, C: NodesMut<K, V>>(tree: &Tree<K, V, C>) -> Steps
     requires { tree.now.root ≢ None }
     ensures { result.count ≡ length (pairs_of tree.now) + map.len tree.now.nodes }
 {
@@ -21,8 +21,8 @@ pub fn visit_backs<K: Ord, V, C: NodesMut<K, V>>(tree: &Tree<K, V, C>) -> Steps
     passed
 }
 
-/// Passes each front address, from the last item backwards, and counts them: as many as pairs and nodes together.
-pub fn visit_fronts<K: Ord, V, C: NodesMut<K, V>>(tree: &Tree<K, V, C>) -> Steps
+// Passes each front address, from the last item backwards, and counts them: as many as pairs and nodes together.
+pub(crate) fn visit_fronts<K: Ord, V, C: NodesMut<K, V>>(tree: &Tree<K, V, C>) -> Steps
     ensures { result.count ≡ length (pairs_of tree.now) + map.len tree.now.nodes }
 {
     let mut passed = Steps::new();
