@@ -25,3 +25,11 @@ pub(crate) fn assert_same_in<N: PartialEq + Debug + Copy + Drop, T: PartialEq + 
 ) {
     assert_same(rt, (case, left), (case, right));
 }
+
+/// Returns what is there. Stops the test where nothing is.
+pub(crate) fn some<T>(rt: &impl Abort, option: Option<T>) -> T {
+    match option {
+        Some(value) => value,
+        None => panic!(rt; "none"),
+    }
+}
