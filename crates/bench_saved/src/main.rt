@@ -5,32 +5,61 @@
 //! for each phase, its name, the nanoseconds that it took, and the bytes that it wrote or read.
 #![tactic(auto)]
 
-use anyhow::{Result, bail};
+use anyhow::{Context, Result, anyhow, bail};
 use btree_map::BTreeMap;
 use btree_more_stores::{Fill, SlotStore};
 use btree_node::{Node, NodesMut};
-use btree_save::{bytes_of_map, map_of_bytes};
+use btree_save::{OpenError, bytes_of_map, map_of_bytes};
 use std::alloc::{AllocError, Global};
 use std::collections::BTreeMap as KitMap;
 use std::env;
 use std::env::Env;
 use std::time::{Clock, Instant};
 
-// Writes a line about a phase.
-fn report(
-    rt: &(impl Print + Clock),
+// Prints a line about each phase. The first error ends the report, and is kept.
+#[derive(Drop)]
+struct Report {
     is_timed: bool,
-    phase: &str,
-    since: Instant,
-    (pairs, bytes): (usize, usize),
-) -> Result<()> {
-    let nanos = since.elapsed(rt)?.as_nanos();
-    if is_timed {
-        rt.println(format_args!("{phase} {nanos} {bytes}"))?;
-    } else {
-        rt.println(format_args!("{phase} {pairs}"))?;
+    since: Option<Instant>,
+    outcome: Result<()>,
+}
+
+impl Report {
+    // Begins a phase.
+    fn begin(&mut self, rt: &impl Clock) {
+        self.since = Instant::now(rt).ok();
     }
-    Ok(())
+
+    // Prints the line about a phase that ends now.
+    fn show(
+        &self,
+        rt: &(impl Print + Clock),
+        phase: &str,
+        (pairs, bytes): (usize, usize),
+    ) -> Result<()> {
+        let nanos = self.since.context("no clock")?.elapsed(rt)?.as_nanos();
+        if self.is_timed {
+            rt.println(format_args!("{phase} {nanos} {bytes}"))?;
+        } else {
+            rt.println(format_args!("{phase} {pairs}"))?;
+        }
+        Ok(())
+    }
+
+    // Ends a phase, which came to so many pairs and bytes if it is done.
+    fn end(
+        &mut self,
+        rt: &(impl Print + Clock),
+        phase: &str,
+        is_done: bool,
+        came_to: (usize, usize),
+    ) {
+        if !is_done {
+            self.outcome = Err(anyhow!("{phase} failed"));
+        } else if self.outcome.is_ok() {
+            self.outcome = self.show(rt, phase, came_to);
+        }
+    }
 }
 
 // Returns keys without an order, by a linear congruence.
@@ -76,86 +105,91 @@ fn put_all_in_kit(map: &mut KitMap<u64, u64>, keys: &[u64]) -> Result<(), AllocE
     Ok(())
 }
 
-// Times a map that is saved.
+// Times a map that is saved. Returns its bytes.
 fn measure_save<C: Fill<Node<u64, u64>, Origin = Global> + Drop>(
     rt: &(impl Print + Clock),
+    report: &mut Report,
     alloc: Global,
-    is_timed: bool,
     keys: &[u64],
-) -> Result<Vec<u8>> {
-    let since = Instant::now(rt)?;
+) -> Vec<u8> {
     let mut map: BTreeMap<u64, u64, C> = BTreeMap::new(alloc);
-    put_all(&mut map, keys)?;
-    report(rt, is_timed, "saved.insert", since, (map.len(), 0))?;
-    let since = Instant::now(rt)?;
-    let bytes = bytes_of_map(alloc, &map)?;
-    report(rt, is_timed, "saved.save", since, (map.len(), bytes.len()))?;
-    Ok(bytes)
+    report.begin(rt);
+    let is_done = put_all(&mut map, keys).is_ok();
+    report.end(rt, "saved.insert", is_done, (map.len(), 0));
+    report.begin(rt);
+    let saved = bytes_of_map(alloc, &map);
+    let is_done = saved.is_ok();
+    let bytes = saved.unwrap_or(Vec::new(alloc));
+    report.end(rt, "saved.save", is_done, (map.len(), bytes.len()));
+    bytes
+}
+
+// Times insertion of the pairs of a map in order.
+fn measure_in_order<C: NodesMut<u64, u64, Origin = Global> + Drop>(
+    rt: &(impl Print + Clock),
+    report: &mut Report,
+    alloc: Global,
+    map: &BTreeMap<u64, u64, C>,
+) {
+    let mut other: BTreeMap<u64, u64, C> = BTreeMap::new(alloc);
+    report.begin(rt);
+    let is_done = put_in_order(&mut other, map).is_ok();
+    report.end(rt, "saved.insert_in_order", is_done, (other.len(), 0));
 }
 
 // Times a map that is opened, and one into which the same pairs are inserted.
 fn measure_open<C: Fill<Node<u64, u64>, Origin = Global> + Drop>(
     rt: &(impl Print + Clock),
+    report: &mut Report,
     alloc: Global,
-    is_timed: bool,
     bytes: &[u8],
-) -> Result<()> {
-    let since = Instant::now(rt)?;
-    let map: BTreeMap<u64, u64, C> = map_of_bytes(alloc, bytes)?;
-    report(rt, is_timed, "saved.open", since, (map.len(), bytes.len()))?;
-    let since = Instant::now(rt)?;
-    let mut other: BTreeMap<u64, u64, C> = BTreeMap::new(alloc);
-    put_in_order(&mut other, &map)?;
-    report(
-        rt,
-        is_timed,
-        "saved.insert_in_order",
-        since,
-        (other.len(), 0),
-    )
+) {
+    report.begin(rt);
+    let opened: Result<BTreeMap<u64, u64, C>, OpenError> = map_of_bytes(alloc, bytes);
+    match opened {
+        Ok(map) => {
+            report.end(rt, "saved.open", true, (map.len(), bytes.len()));
+            measure_in_order(rt, report, alloc, &map);
+        }
+        Err(_) => report.end(rt, "saved.open", false, (0, 0)),
+    }
 }
 
-// Times a map of the kit's std that is written as JSON.
+// Times a map of the kit's std that is written as JSON. Returns the text.
 fn measure_write(
     rt: &(impl Print + Clock),
+    report: &mut Report,
     alloc: Global,
-    is_timed: bool,
     keys: &[u64],
-) -> Result<String> {
-    let since = Instant::now(rt)?;
+) -> String {
     let mut map: KitMap<u64, u64> = KitMap::new(alloc);
-    put_all_in_kit(&mut map, keys)?;
-    report(rt, is_timed, "std.insert", since, (map.len(), 0))?;
-    let since = Instant::now(rt)?;
-    let text = serde_json::to_string(alloc, &map)?;
-    report(rt, is_timed, "std.to_json", since, (map.len(), text.len()))?;
-    Ok(text)
+    report.begin(rt);
+    let is_done = put_all_in_kit(&mut map, keys).is_ok();
+    report.end(rt, "std.insert", is_done, (map.len(), 0));
+    report.begin(rt);
+    let written = serde_json::to_string(alloc, &map);
+    let is_done = written.is_ok();
+    let text = written.unwrap_or(String::new(alloc));
+    report.end(rt, "std.to_json", is_done, (map.len(), text.len()));
+    text
 }
 
 // Times a map of the kit's std that is read from JSON.
-fn measure_read(
-    rt: &(impl Print + Clock),
-    alloc: Global,
-    is_timed: bool,
-    text: &str,
-) -> Result<()> {
-    let since = Instant::now(rt)?;
-    let map: KitMap<u64, u64> = serde_json::from_str(alloc, text)?;
-    report(
-        rt,
-        is_timed,
-        "std.from_json",
-        since,
-        (map.len(), text.len()),
-    )
+fn measure_read(rt: &(impl Print + Clock), report: &mut Report, alloc: Global, text: &str) {
+    report.begin(rt);
+    let read: serde_json::Result<KitMap<u64, u64>> = serde_json::from_str(alloc, text);
+    match &read {
+        Ok(map) => report.end(rt, "std.from_json", true, (map.len(), text.len())),
+        Err(_) => report.end(rt, "std.from_json", false, (0, 0)),
+    }
 }
 
 // Times both.
-fn measure(rt: &(impl Print + Clock), alloc: Global, is_timed: bool, keys: &[u64]) -> Result<()> {
-    let bytes = measure_save::<SlotStore<Node<u64, u64>>>(rt, alloc, is_timed, keys)?;
-    measure_open::<SlotStore<Node<u64, u64>>>(rt, alloc, is_timed, &bytes)?;
-    let text = measure_write(rt, alloc, is_timed, keys)?;
-    measure_read(rt, alloc, is_timed, text.as_str())
+fn measure(rt: &(impl Print + Clock), report: &mut Report, alloc: Global, keys: &[u64]) {
+    let bytes = measure_save::<SlotStore<Node<u64, u64>>>(rt, report, alloc, keys);
+    measure_open::<SlotStore<Node<u64, u64>>>(rt, report, alloc, &bytes);
+    let text = measure_write(rt, report, alloc, keys);
+    measure_read(rt, report, alloc, text.as_str());
 }
 
 fn main(rt: HostRuntime) -> Result<()> {
@@ -168,5 +202,11 @@ fn main(rt: HostRuntime) -> Result<()> {
         bail!("no pairs");
     }
     let keys = make_keys(rt.alloc(), count)?;
-    measure(&rt, rt.alloc(), is_timed, &keys)
+    let mut report = Report {
+        is_timed,
+        since: None,
+        outcome: Ok(()),
+    };
+    measure(&rt, &mut report, rt.alloc(), &keys);
+    report.outcome
 }
