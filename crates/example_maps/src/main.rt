@@ -48,9 +48,9 @@ use crate::sold_out::remove_sold_out;
 use crate::texts::{count_of, count_text};
 use crate::visits::count_visit;
 use crate::words::count_word;
-use btree_slab::generic::map::Refused;
+use btree_slab::generic::map::{RawBTree, Refused};
 use btree_slab::range_map::Span;
-use btree_slab::store::NodesMut;
+use btree_slab::store::{CloneNodes, NodesMut};
 use btree_slab::{
     Address, BTreeExt, BTreeExtMut, BTreeMap, BTreeSet, FixedMap, RangeMap, RangeSet, generic,
     range_map, range_set,
@@ -230,15 +230,47 @@ fn print_visits(rt: &impl Print) -> io::Result<()> {
     Ok(())
 }
 
-/// Prints what is read of a stock of which the first copy has a wrong length.
-fn print_copies(rt: &impl Print, stock: BTreeMap<u32, u64>) -> io::Result<()> {
-    let mut first = stock.clone()?.into_raw();
-    first.set_len(7);
-    rt.println(format_args!("the first copy can be read: {}", is_readable(&first)))?;
-    match read_copy(first, stock.into_raw()) {
+/// Prints whether a copy can be read.
+fn print_readable<C: NodesMut<u32, u64>>(
+    rt: &impl Print,
+    copy: &RawBTree<u32, u64, C>,
+) -> io::Result<()> {
+    rt.println(format_args!("the first copy can be read: {}", is_readable(copy)))
+}
+
+/// Prints what is read of two copies.
+fn print_read<C: NodesMut<u32, u64> + Drop>(
+    rt: &impl Print,
+    first: RawBTree<u32, u64, C>,
+    second: RawBTree<u32, u64, C>,
+) -> io::Result<()> {
+    match read_copy(first, second) {
         Ok(read) => rt.println(format_args!("parts in the second copy: {}", read.len())),
         Err((_copy, fault)) => rt.println(format_args!("no copy is whole: {fault:?}")),
     }
+}
+
+/// Prints what is read of a stock of which the first copy has a wrong length.
+fn print_copies<C: CloneNodes<u32, u64> + Drop>(
+    rt: &impl Print,
+    stock: generic::BTreeMap<u32, u64, C>,
+) -> io::Result<()> {
+    let mut first = stock.clone()?.into_raw();
+    first.set_len(7);
+    print_readable(rt, &first)?;
+    print_read(rt, first, stock.into_raw())
+}
+
+/// Prints the parts that are in one set and not in another.
+fn print_difference<D: NodesMut<u32, ()>>(
+    rt: &impl Print,
+    order: &generic::BTreeSet<u32, D>,
+    parts: &generic::BTreeSet<u32, D>,
+) -> io::Result<()> {
+    for part in order.difference(parts) {
+        rt.println(format_args!("missing: {part}"))?;
+    }
+    Ok(())
 }
 
 /// Prints the parts of an order that are not in stock.
@@ -248,12 +280,25 @@ fn print_missing<C: NodesMut<u32, u64>, D: NodesMut<u32, ()>>(
     order: &mut generic::BTreeSet<u32, D>,
     parts: &mut generic::BTreeSet<u32, D>,
 ) -> io::Result<()> {
-    order.extend(&mut [408, 1203, 2000].into_iter())?;
-    parts.extend_copied(&mut stock.keys())?;
-    for part in order.difference(parts) {
-        rt.println(format_args!("missing: {part}"))?;
+    for part in [408, 1203, 2000] {
+        order.insert(part)?;
     }
-    Ok(())
+    parts.extend_copied(&mut stock.keys())?;
+    print_difference(rt, &*order, &*parts)
+}
+
+/// The same over sets of its own.
+fn print_order<C: NodesMut<u32, u64>>(
+    rt: &impl Print,
+    alloc: Global,
+    stock: &generic::BTreeMap<u32, u64, C>,
+) -> io::Result<()> {
+    print_missing(
+        rt,
+        stock,
+        &mut BTreeSet::new(alloc),
+        &mut BTreeSet::new(alloc),
+    )
 }
 
 /// Fills a stock, and prints what is in it.
@@ -361,12 +406,7 @@ fn print_parts(rt: &impl Print, alloc: Global) -> io::Result<()> {
     let mut stock: BTreeMap<u32, u64> = BTreeMap::new(alloc);
     print_stock(rt, &mut stock)?;
     print_page(rt, alloc, &mut stock)?;
-    print_missing(
-        rt,
-        &stock,
-        &mut BTreeSet::new(alloc),
-        &mut BTreeSet::new(alloc),
-    )?;
+    print_order(rt, alloc, &stock)?;
     print_copies(rt, stock)
 }
 
