@@ -96,6 +96,25 @@ fn take_and_put_back(
     Ok(Some(count))
 }
 
+/// Prints where so many blocks are reserved, if there is room.
+fn print_room(rt: &impl Print, size: u64, start: Option<u64>) -> io::Result<()> {
+    match start {
+        Some(start) => rt.println(format_args!("{size} blocks: from {start}")),
+        None => rt.println(format_args!("{size} blocks: no room")),
+    }
+}
+
+/// Prints which of 32 blocks are free.
+fn print_gaps<C: NodesMut<u64, u64>>(
+    rt: &impl Print,
+    reserved: &range_set::RangeSet<C>,
+) -> io::Result<()> {
+    for (start, end) in reserved.gaps(0, 32) {
+        rt.println(format_args!("free: {start} to {end}"))?;
+    }
+    Ok(())
+}
+
 /// Prints where blocks are reserved, of 32, and which are free then.
 fn print_blocks<C: NodesMut<u64, u64>>(
     rt: &impl Print,
@@ -104,13 +123,27 @@ fn print_blocks<C: NodesMut<u64, u64>>(
     reserved.insert(0, 14)?;
     reserved.remove(2, 8)?;
     for size in [7, 5, 12] {
-        match reserve(reserved, size, 32)? {
-            Some(start) => rt.println(format_args!("{size} blocks: from {start}"))?,
-            None => rt.println(format_args!("{size} blocks: no room"))?,
-        }
+        let start = reserve(reserved, size, 32)?;
+        print_room(rt, size, start)?;
     }
-    for (start, end) in reserved.gaps(0, 32) {
-        rt.println(format_args!("free: {start} to {end}"))?;
+    print_gaps(rt, &*reserved)
+}
+
+/// Prints where a region is, if there is one.
+fn print_region(rt: &impl Print, is: &str, region: Option<(u64, &Span<Owner>)>) -> io::Result<()> {
+    match region {
+        Some((start, span)) => rt.println(format_args!("{is}: {start} to {}", span.end)),
+        None => Ok(()),
+    }
+}
+
+/// Prints each region and its owner.
+fn print_regions<C: NodesMut<u64, Span<Owner>>>(
+    rt: &impl Print,
+    memory: &range_map::RangeMap<Owner, C>,
+) -> io::Result<()> {
+    for (start, span) in memory.iter() {
+        rt.println(format_args!("{start} to {}: {:?}", span.end, span.value))?;
     }
     Ok(())
 }
@@ -125,9 +158,7 @@ fn print_memory<C: NodesMut<u64, Span<Owner>>>(
     rt.println(format_args!("40 addresses: from {}", start.unwrap_or(100)))?;
     for (owner, is) in [(2, "a part"), (1, "the whole")] {
         give(memory, 30, 40, Owner::Process(owner))?;
-        if let Some((start, span)) = region_of(memory, 20) {
-            rt.println(format_args!("{is}: {start} to {}", span.end))?;
-        }
+        print_region(rt, is, region_of(memory, 20))?;
     }
     print_released(rt, memory)
 }
@@ -140,10 +171,7 @@ fn print_released<C: NodesMut<u64, Span<Owner>>>(
     release(memory, 20, 24)?;
     rt.println(format_args!("22 is free: {}", owner_of(memory, 22).is_none()))?;
     hand_over(memory, 10, 40, Owner::Process(1), Owner::Process(2))?;
-    for (start, span) in memory.iter() {
-        rt.println(format_args!("{start} to {}: {:?}", span.end, span.value))?;
-    }
-    Ok(())
+    print_regions(rt, &*memory)
 }
 
 /// Prints how many regions a process takes over, of three that touch its addresses, and who owns one of them then.
@@ -159,16 +187,21 @@ fn print_taken<C: NodesMut<u64, Span<Owner>>>(
     rt.println(format_args!("address 10: {:?}", owner_of(memory, 10)))
 }
 
+/// Prints each word, and how often it occurs.
+fn print_words(rt: &impl Print, counts: &BTreeMap<&'static str, u64>) -> io::Result<()> {
+    for (word, count) in counts.iter() {
+        rt.println(format_args!("{word}: {count}"))?;
+    }
+    Ok(())
+}
+
 /// Prints how often each of a few words occurs.
 fn print_counts(rt: &impl Print, alloc: Global) -> io::Result<()> {
     let mut counts: BTreeMap<&'static str, u64> = BTreeMap::new(alloc);
     for word in ["to", "be", "or", "not", "to", "be"] {
         count_word(&mut counts, word)?;
     }
-    for (word, count) in counts.iter() {
-        rt.println(format_args!("{word}: {count}"))?;
-    }
-    Ok(())
+    print_words(rt, &counts)
 }
 
 /// Prints how often two of a few words occur, in a map of strings.
@@ -287,7 +320,7 @@ fn print_missing<C: NodesMut<u32, u64>, D: NodesMut<u32, ()>>(
     print_difference(rt, &*order, &*parts)
 }
 
-/// The same over sets of its own.
+/// The same over two new sets.
 fn print_order<C: NodesMut<u32, u64>>(
     rt: &impl Print,
     alloc: Global,
@@ -410,20 +443,49 @@ fn print_parts(rt: &impl Print, alloc: Global) -> io::Result<()> {
     print_copies(rt, stock)
 }
 
+// Each of the following makes the map or the set that is printed. One that made several would take much longer to prove.
+fn print_new_blocks(rt: &impl Print, alloc: Global) -> io::Result<()> {
+    print_blocks(rt, &mut RangeSet::new(alloc))
+}
+
+fn print_new_memory(rt: &impl Print, alloc: Global) -> io::Result<()> {
+    print_memory(rt, &mut RangeMap::new(alloc))
+}
+
+fn print_new_taken(rt: &impl Print, alloc: Global) -> io::Result<()> {
+    print_taken(rt, &mut RangeMap::new(alloc))
+}
+
+fn print_new_texts(rt: &impl Print, alloc: Global) -> io::Result<()> {
+    print_texts(rt, alloc, &mut BTreeMap::new(alloc))
+}
+
+fn print_new_log(rt: &impl Print, alloc: Global) -> io::Result<()> {
+    print_log(rt, &mut BTreeMap::new(alloc))
+}
+
+fn print_new_shelves(rt: &impl Print, alloc: Global) -> io::Result<()> {
+    print_shelves(rt, alloc, &mut BTreeSet::new(alloc))
+}
+
+fn print_new_orders(rt: &impl Print, alloc: Global) -> io::Result<()> {
+    print_orders(rt, &mut BTreeMap::new(alloc))
+}
+
 /// Ranges of numbers.
 fn print_ranges(rt: &impl Print, alloc: Global) -> io::Result<()> {
-    print_blocks(rt, &mut RangeSet::new(alloc))?;
-    print_memory(rt, &mut RangeMap::new(alloc))?;
-    print_taken(rt, &mut RangeMap::new(alloc))
+    print_new_blocks(rt, alloc)?;
+    print_new_memory(rt, alloc)?;
+    print_new_taken(rt, alloc)
 }
 
 /// Maps with keys of several kinds, and a set.
 fn print_kinds(rt: &impl Print, alloc: Global) -> io::Result<()> {
     print_counts(rt, alloc)?;
-    print_texts(rt, alloc, &mut BTreeMap::new(alloc))?;
-    print_log(rt, &mut BTreeMap::new(alloc))?;
-    print_shelves(rt, alloc, &mut BTreeSet::new(alloc))?;
-    print_orders(rt, &mut BTreeMap::new(alloc))
+    print_new_texts(rt, alloc)?;
+    print_new_log(rt, alloc)?;
+    print_new_shelves(rt, alloc)?;
+    print_new_orders(rt, alloc)
 }
 
 fn main(rt: HostRuntime) -> io::Result<()> {
